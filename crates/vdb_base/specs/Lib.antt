@@ -1,0 +1,11 @@
+pub mod Fits
+pub mod Order
+pub mod Total
+pub mod Print
+pub mod Counts
+pub mod Calls
+pub mod Feeding
+pub mod MemFeed
+pub mod Printing
+pub mod MemSink
+pub mod Buffering
