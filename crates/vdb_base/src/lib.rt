@@ -25,3 +25,6 @@ pub use sink::{MemSink, Sink, StdSink};
 pub use text::{Text, Texts};
 pub use value::{Fit, TEXT_LIMIT, Ty, Value, cmp_rows, cmp_values, fits};
 pub use write_buffer::WriteBuffer;
+
+#[cfg(test)]
+mod tests;

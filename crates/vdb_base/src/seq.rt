@@ -1,3 +1,5 @@
+//! Lists that contracts see as lists.
+
 ghost use Rattle.std.specs.Prelude.{◌≡◌, [], ◌∷◌, ◌++◌, length, slice_get, slice_index_or, ◌==◌, IfOk, OnOk, OnErr};
 ghost use Rattle.std.specs.Option.{option_copied, unwrap_or};
 

@@ -1,3 +1,5 @@
+//! Texts that contracts see as their bytes.
+
 ghost use Rattle.std.specs.Prelude.{◌≡◌, ◌++◌, [], length, IfOk, OnOk, OnErr};
 ghost use Rattle.std.specs.String.{string_bytes};
 

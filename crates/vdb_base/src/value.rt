@@ -1,3 +1,5 @@
+//! Values, the types of columns, and the order of values and rows.
+
 ghost use Rattle.std.specs.Prelude.{◌≡◌, IfOk};
 ghost use Rattle.vdb_base.specs.Fits.{fit_of, in_range};
 ghost use Rattle.vdb_base.specs.Order.{kind_of, value_cmp, row_cmp};

@@ -1,0 +1,9 @@
+pub mod Ranges
+pub mod Types
+pub mod Sound
+pub mod Value
+pub mod Bags
+pub mod ByKinds
+pub mod RelByKinds
+pub mod FormOf
+pub mod CanRules
