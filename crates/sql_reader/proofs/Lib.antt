@@ -1,0 +1,17 @@
+pub mod Utf8
+pub mod Steps
+pub mod Decimal
+pub mod Stay
+pub mod Stays
+pub mod Written
+pub mod Exactly
+pub mod Names
+pub mod Comments
+pub mod Turns
+pub mod NameLists
+pub mod SameKind
+pub mod Sound
+pub mod Complete
+pub mod SelectReads
+pub mod TextParts
+pub mod SaidText
