@@ -1,6 +1,5 @@
 -- What a query needs of a resource, and what holds of its rows whether contents are told or not.
-use Rattle.std.specs.Prelude.{◌≡◌, ℕ, Bool, true, false, ◌&&◌, List, [], ◌∷◌, length, Option, Some, None, IfSome, slice_index_or}
-use Rattle.vdb_base.specs.declared.value.Value.{Value}
+use Rattle.std.specs.Prelude.{◌≡◌, ℕ, Bool, true, false, ◌&&◌, List, [], ◌∷◌, length, Some, IfSome, slice_index_or}
 use Rattle.vdb_base.specs.declared.value.Ty.{Ty}
 use Rattle.vdb_base.specs.declared.value.Ty.TheVariants.{Boolean, Long}
 use Rattle.vdb_base.specs.Fits.{fit_of}

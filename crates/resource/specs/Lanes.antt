@@ -1,5 +1,5 @@
 -- What lists of lanes tell.
-use Rattle.std.specs.Prelude.{ℕ, List, [], ◌∷◌, map}
+use Rattle.std.specs.Prelude.{ℕ, List, map}
 use Rattle.vdb_model.specs.declared.table.Kind.{Kind}
 use Rattle.resource.specs.declared.lane.Lane.{Lane}
 use Rattle.resource.specs.Told.{Told}

@@ -4,3 +4,7 @@ pub mod Asks
 pub mod Stored
 pub mod Lanes
 pub mod Slices
+pub mod Checked
+pub mod Plain
+pub mod Failing
+pub mod MemResource

@@ -1,7 +1,6 @@
 -- What a store reads as under definitions of tables.
 use Rattle.std.specs.Prelude.{◌≡◌, ℕ, List, Option, Some, None, Result, Ok, Err, ⊤}
 use Rattle.vdb_model.specs.Rows.{Cells}
-use Rattle.vdb_model.specs.declared.table.TableDef.{TableDef}
 use Rattle.resource.specs.declared.resource.AttachFault.{AttachFault}
 use Rattle.resource.specs.declared.resource.AttachFault.TheVariants.{BadCell, BadStore, Failed, Memory}
 

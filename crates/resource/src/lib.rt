@@ -5,10 +5,15 @@
 //! yardstick for the other stores. The engine and every store stand on this crate.
 #![tactic(auto)]
 
+mod keys;
 mod lane;
 mod mem_resource;
 mod resource;
+mod stored;
 
 pub use lane::{Lane, Lanes};
-pub use mem_resource::{StoredTable, Tables};
+pub use mem_resource::{MemResource, StoredTable, Tables, is_plain};
 pub use resource::{AttachFault, ResFault, Resource};
+
+#[cfg(test)]
+mod tests;

@@ -1,5 +1,5 @@
 -- Lemmas for the test of capabilities.
-use Rattle.std.proofs.Common.{◌≡◌, ◌≤◌, ◌<◌, ◌+◌, ◌-◌, List, [], ◌∷◌, ℕ, suc, ap, refl, length, sum, nat_lt, true, arith}
+use Rattle.std.proofs.Common.{◌≡◌, ◌≤◌, ◌<◌, ◌+◌, ◌-◌, List, [], ◌∷◌, ℕ, suc, ap, refl, length, nat_lt, true, arith}
 use Rattle.std.proofs.lemmas.Bool.Decides.{nat_tests}
 use Rattle.vdb_model.specs.declared.expr.Expr.{Expr}
 use Rattle.vdb_model.specs.declared.source.Caps.{Caps}

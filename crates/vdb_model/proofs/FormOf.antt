@@ -1,16 +1,14 @@
 -- The equations of `form`, one for each kind of expression.
-use Rattle.std.proofs.Common.{◌≡◌, ◌∙◌, ◌++◌, List, [], ◌∷◌, ℕ, map, ap, sym, refl, subst, Bool, true, false, ◌&&◌}
-use Rattle.std.specs.List.{AllByRecursion}
+use Rattle.std.proofs.Common.{◌≡◌, ◌∙◌, List, [], ◌∷◌, ℕ, map, ap, sym, refl, Bool, false, ◌&&◌}
 use Rattle.vdb_base.specs.declared.value.Value.{Value}
 use Rattle.vdb_model.specs.declared.expr.Expr.{Expr}
-use Rattle.vdb_model.specs.declared.expr.Arm.{Arm, out-Arm}
+use Rattle.vdb_model.specs.declared.expr.Arm.{Arm}
 use Rattle.vdb_model.specs.declared.expr.CmpOp.{CmpOp}
 use Rattle.vdb_model.specs.declared.expr.ArithOp.{ArithOp}
 use Rattle.vdb_model.specs.declared.expr.Expr.TheVariants.{Col, Var, Const, Not, And, Or, Cmp, IsNull, In, Like, Arith, Neg, Concat, Case, Coalesce, rolls-Col, rolls-Var, rolls-Const, rolls-Not, rolls-And, rolls-Or, rolls-Cmp, rolls-IsNull, rolls-In, rolls-Like, rolls-Arith, rolls-Neg, rolls-Concat, rolls-Case, rolls-Coalesce}
-use Rattle.vdb_model.specs.declared.expr.Expr.TheOpen.{Expr-F, Arm-F}
-use Rattle.vdb_model.specs.declared.expr.Expr.TheFolds.{fold-Arm, fold-Expr, fold-roll-Expr, fold_out-Arm, ind-Expr, map-Expr}
-use Rattle.vdb_model.specs.declared.expr.Expr.TheViews.{roll-Expr, roll-Arm, roll-out-Arm}
-use Rattle.std.specs.Prelude.{◌||◌, nat_le, length, Option, Some, None}
+use Rattle.vdb_model.specs.declared.expr.Expr.TheOpen.{Expr-F}
+use Rattle.vdb_model.specs.declared.expr.Expr.TheFolds.{fold-roll-Expr}
+use Rattle.std.specs.Prelude.{◌||◌, nat_le, length, Some, None}
 use Rattle.vdb_model.specs.declared.source.Caps.{Caps}
 use Rattle.vdb_model.specs.Can.{Form, criterion, is_column, good_constant, compares, is_equality, far, any_form, all_allowed, all_constants, form_step, no_arm, form, forms}
 

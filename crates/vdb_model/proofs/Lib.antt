@@ -7,3 +7,7 @@ pub mod ByKinds
 pub mod RelByKinds
 pub mod FormOf
 pub mod CanRules
+pub mod Rearranged
+pub mod SameRows
+pub mod SameDistinct
+mod Worked

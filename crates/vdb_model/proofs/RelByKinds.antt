@@ -1,5 +1,5 @@
 -- Induction over relations, one case for each kind.
-use Rattle.std.proofs.Common.{◌≡◌, ◌∙◌, ◌++◌, List, [], ◌∷◌, ℕ, map, ap, sym, refl, subst, Bool}
+use Rattle.std.proofs.Common.{List, [], ◌∷◌, ℕ, map, sym, subst}
 use Rattle.std.specs.List.{AllByRecursion}
 use Rattle.vdb_model.specs.declared.expr.Expr.{Expr}
 use Rattle.vdb_model.specs.declared.rel.JoinKind.{JoinKind}
@@ -7,7 +7,7 @@ use Rattle.vdb_model.specs.declared.rel.Agg.{Agg}
 use Rattle.vdb_model.specs.declared.rel.Rel.{Rel}
 use Rattle.vdb_model.specs.declared.rel.Rel.TheVariants.{One, Table, View, Where, Select, Join, Group, Distinct, Union, rolls-One, rolls-Table, rolls-View, rolls-Where, rolls-Select, rolls-Join, rolls-Group, rolls-Distinct, rolls-Union}
 use Rattle.vdb_model.specs.declared.rel.Rel.TheOpen.{Rel-F}
-use Rattle.vdb_model.specs.declared.rel.Rel.TheFolds.{fold-roll-Rel, ind-Rel, map-Rel}
+use Rattle.vdb_model.specs.declared.rel.Rel.TheFolds.{ind-Rel, map-Rel}
 use Rattle.vdb_model.specs.declared.rel.Rel.TheViews.{roll-Rel}
 
 module _ (P : Rel → Type 0) where

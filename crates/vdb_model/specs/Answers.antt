@@ -1,7 +1,6 @@
 -- What a source may answer to a source query.
 use Rattle.std.specs.Prelude.{◌≡◌, ℕ, ◌+◌, ◌==◌, Bool, true, false, ◌&&◌, if◌then◌else◌, List, [], ◌∷◌, ◌++◌, length, pos}
 use Rattle.std.specs.List.{filter}
-use Rattle.vdb_base.specs.declared.value.Value.{Value}
 use Rattle.vdb_model.specs.declared.expr.Expr.{Expr}
 use Rattle.vdb_model.specs.declared.rel.Key.{Key}
 use Rattle.vdb_model.specs.declared.table.TableDef.{TableDef}

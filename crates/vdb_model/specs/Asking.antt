@@ -1,21 +1,17 @@
 -- What has to hold of a source query before it is sent.
-use Rattle.std.specs.Prelude.{ℕ, ◌+◌, Bool, true, false, ◌&&◌, ◌||◌, ◌==◌, if◌then◌else◌, List, [], ◌∷◌, ◌++◌, length, slice_get, Option, Some, None}
+use Rattle.std.specs.Prelude.{ℕ, ◌+◌, Bool, true, false, ◌&&◌, ◌||◌, ◌==◌, List, [], ◌∷◌, ◌++◌, length, Option, Some, None}
 use Rattle.std.specs.List.{list_any}
-use Rattle.vdb_base.specs.declared.value.Value.{Value}
-use Rattle.vdb_base.specs.declared.value.Value.TheVariants.{Null, Bool as Truth, Num, Str}
 use Rattle.vdb_base.specs.declared.value.Ty.{Ty}
 use Rattle.vdb_base.specs.declared.value.Ty.TheVariants.{Boolean}
 use Rattle.vdb_model.specs.declared.expr.Expr.{Expr}
-use Rattle.vdb_model.specs.declared.expr.CmpOp.{CmpOp}
 use Rattle.vdb_model.specs.declared.table.ColumnDef.{ColumnDef}
 use Rattle.vdb_model.specs.declared.table.TableDef.{TableDef}
 use Rattle.vdb_model.specs.declared.source.SourceQuery.{SourceQuery}
 use Rattle.vdb_model.specs.declared.expr.Expr.TheOpen.{Expr-F, Arm-F}
 use Rattle.vdb_model.specs.declared.expr.Expr.TheFolds.{fold-Expr}
-use Rattle.vdb_model.specs.Typed.{has_type, is_of}
+use Rattle.vdb_model.specs.Typed.{has_type}
 use Rattle.vdb_model.specs.Can.{is_equality}
 use Rattle.vdb_model.specs.Defs.{def_of}
-use Rattle.vdb_model.specs.Rows.{Cells}
 
 abbrev pub types_of : List ColumnDef → List Ty
 types_of [] = []

@@ -1,5 +1,5 @@
 -- Which criteria and source queries a source's capabilities allow.
-use Rattle.std.specs.Prelude.{ℕ, zero, suc, ◌+◌, ◌-◌, Bool, true, false, not, ◌&&◌, ◌||◌, ◌==◌, if◌then◌else◌, nat_le, nat_lt, List, [], ◌∷◌, length, sum, Option, Some, None, is_none, pos, negsuc}
+use Rattle.std.specs.Prelude.{ℕ, ◌-◌, Bool, true, false, not, ◌&&◌, ◌||◌, ◌==◌, if◌then◌else◌, nat_le, nat_lt, List, [], ◌∷◌, length, sum, Option, Some, None, is_none, pos, negsuc}
 use Rattle.std.specs.List.{list_any}
 use Rattle.vdb_base.specs.declared.value.Value.{Value}
 use Rattle.vdb_base.specs.declared.value.Value.TheVariants.{Null, Bool as Truth, Num, Str}

@@ -1,5 +1,5 @@
 -- Group: one row per list of key values that occurs, the keys and then the aggregates.
-use Rattle.std.specs.Prelude.{ℕ, Bool, if◌then◌else◌, List, [], ◌∷◌, ◌++◌, length, ℤ, pos, ◌+ℤ◌}
+use Rattle.std.specs.Prelude.{ℕ, if◌then◌else◌, List, [], ◌∷◌, ◌++◌, length, ℤ, pos, ◌+ℤ◌}
 use Rattle.std.specs.List.{filter}
 use Rattle.std.specs.Ordering.{is_lt}
 use Rattle.vdb_base.specs.declared.value.Value.{Value}

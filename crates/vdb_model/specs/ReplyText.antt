@@ -1,5 +1,5 @@
 -- The lines of a reply.
-use Rattle.std.specs.Prelude.{ℕ, Bool, true, false, List, [], ◌∷◌, ◌++◌, length, codes}
+use Rattle.std.specs.Prelude.{ℕ, List, [], ◌∷◌, ◌++◌, length, codes}
 use Rattle.vdb_base.specs.declared.value.Value.{Value}
 use Rattle.vdb_base.specs.Print.{value_text}
 use Rattle.vdb_model.specs.declared.reply.Reply.{Reply}

@@ -2,7 +2,6 @@
 use Rattle.std.specs.Prelude.{ℕ, Bool, true, false, not, ◌&&◌, ◌==◌, if◌then◌else◌, List, [], ◌∷◌, length, Option, Some, None}
 use Rattle.std.specs.List.{list_any}
 use Rattle.vdb_base.specs.declared.value.Value.{Value}
-use Rattle.vdb_base.specs.declared.value.Ty.{Ty}
 use Rattle.vdb_base.specs.declared.value.Fit.{Fit}
 use Rattle.vdb_base.specs.declared.value.Fit.TheVariants.{Yes, Range, Length, Kind}
 use Rattle.vdb_base.specs.Fits.{fit_of}

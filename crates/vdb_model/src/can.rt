@@ -40,7 +40,8 @@ fn server_of(defs: &[TableDef], table: u32) -> u32
     0
 }
 
-fn is_defined(defs: &[TableDef], table: u32) -> bool
+/// Whether a table has the number.
+pub fn is_defined(defs: &[TableDef], table: u32) -> bool
     ensures { result ≡ is_defined defs.now table }
 {
     for def in defs {

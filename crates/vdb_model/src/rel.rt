@@ -100,3 +100,22 @@ impl Duplicate for Agg {
         self.copy(alloc)
     }
 }
+
+impl Ranked {
+    pub fn copy(&self, alloc: Global) -> Result<Ranked, NoMemory>
+        ensures { IfOk result (λ made. made ≡ self.now) }
+    {
+        let names = self.names.copy(alloc)?;
+        let tys = self.tys.copy(alloc)?;
+        let keys = self.keys.copy(alloc)?;
+        let rel = self.rel.copy(alloc)?;
+        Ok(Ranked {
+            rel,
+            names,
+            tys,
+            keys,
+            offset: self.offset,
+            limit: self.limit,
+        })
+    }
+}

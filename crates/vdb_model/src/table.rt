@@ -2,6 +2,7 @@
 
 ghost use Rattle.std.specs.Prelude.{◌≡◌, IfOk};
 
+use crate::optional::copy_optional;
 use std::alloc::Global;
 use vdb_base::{Duplicate, NoMemory, Nums, Seq, Text, Ty};
 
@@ -63,15 +64,6 @@ impl Duplicate for ColumnDef {
     }
 }
 
-fn copy_key(alloc: Global, key: &Option<Nums>) -> Result<Option<Nums>, NoMemory>
-    ensures { IfOk result (λ made. made ≡ key.now) }
-{
-    match key {
-        None => Ok(None),
-        Some(columns) => Ok(Some(columns.copy(alloc)?)),
-    }
-}
-
 impl TableDef {
     pub fn copy(&self, alloc: Global) -> Result<TableDef, NoMemory>
         ensures { IfOk result (λ made. made ≡ self.now) }
@@ -83,7 +75,7 @@ impl TableDef {
             name: self.name.copy(alloc)?,
             source: self.source.copy(alloc)?,
             columns: self.columns.copy(alloc)?,
-            key: copy_key(alloc, &self.key)?,
+            key: copy_optional(alloc, &self.key)?,
             patterns: self.patterns.copy(alloc)?,
             updatable: self.updatable,
         })

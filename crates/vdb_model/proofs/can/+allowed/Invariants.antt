@@ -1,4 +1,4 @@
-use Rattle.std.proofs.Common.{◌≡◌, drop, sum, nat_lt}
+use Rattle.std.proofs.Common.{◌≡◌, drop}
 use Rattle.vdb_model.specs.Can.{all_allowed, forms, widths_of}
 use Rattle.vdb_model.proofs.can.+allowed.Given as goal
 

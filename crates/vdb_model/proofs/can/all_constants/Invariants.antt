@@ -1,4 +1,4 @@
-use Rattle.std.proofs.Common.{◌≡◌, drop, sum, nat_lt}
+use Rattle.std.proofs.Common.{◌≡◌, drop}
 use Rattle.vdb_model.specs.Can.{all_constants, forms, widths_of}
 use Rattle.vdb_model.proofs.can.all_constants.Given as goal
 

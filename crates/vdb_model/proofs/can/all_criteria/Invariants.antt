@@ -1,4 +1,4 @@
-use Rattle.std.proofs.Common.{◌≡◌, drop, sum, nat_lt}
+use Rattle.std.proofs.Common.{◌≡◌, drop}
 use Rattle.vdb_model.specs.Can.{all_criteria, widths_of}
 use Rattle.vdb_model.proofs.can.all_criteria.Given as goal
 

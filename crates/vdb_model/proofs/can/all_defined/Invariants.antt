@@ -1,4 +1,4 @@
-use Rattle.std.proofs.Common.{◌≡◌, drop, sum, nat_lt}
+use Rattle.std.proofs.Common.{◌≡◌, drop}
 use Rattle.vdb_model.specs.Can.{all_defined}
 use Rattle.vdb_model.proofs.can.all_defined.Given as goal
 

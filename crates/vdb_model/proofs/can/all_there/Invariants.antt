@@ -1,4 +1,4 @@
-use Rattle.std.proofs.Common.{◌≡◌, drop, sum, nat_lt}
+use Rattle.std.proofs.Common.{◌≡◌, drop, sum}
 use Rattle.vdb_model.specs.Can.{widths_of}
 use Rattle.vdb_model.specs.Defs.{all_below}
 use Rattle.vdb_model.proofs.can.all_there.Given as goal

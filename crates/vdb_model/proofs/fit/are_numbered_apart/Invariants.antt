@@ -1,0 +1,9 @@
+use Rattle.std.proofs.Common.{◌≡◌, length}
+use Rattle.vdb_model.specs.Defs.{are_numbered_apart}
+use Rattle.vdb_model.proofs.fit.are_numbered_apart.Given as goal
+
+abbrev pub invariant-loop-left : goal.invariant-loop-left
+invariant-loop-left l = are_numbered_apart l.left ≡ are_numbered_apart l.fn.defs
+
+abbrev pub decreases-loop-left : goal.decreases-loop-left
+decreases-loop-left l = length l.left
