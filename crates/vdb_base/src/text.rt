@@ -66,6 +66,11 @@ impl Text {
         self.text.len()
     }
 
+    /// The allocator that it grows by.
+    pub fn alloc(&self) -> Global {
+        *self.text.allocator()
+    }
+
     pub fn push_str(&mut self, more: &str) -> Result<(), NoMemory>
         ensures ok { OnOk result (self.new ≡ self.old ++ more.now) }
         ensures err { OnErr result (self.new ≡ self.old) }

@@ -15,6 +15,7 @@ mod expr;
 mod expr_copy;
 mod fit;
 mod laws;
+mod name;
 mod optional;
 mod rel;
 mod rel_copy;
@@ -33,6 +34,7 @@ pub use catalog::{
 pub use expr::{ArithOp, Arm, Arms, CmpOp, Expr, Exprs};
 pub use fit::are_fit;
 pub use laws::typed_is_exact;
+pub use name::{dotted, is_word, print_name, printed};
 pub use rel::{Agg, Aggs, JoinKind, Key, Keys, Names, Ranked, Rel, Rels};
 pub use reply::{DeployFault, Phase, Refusal, Replies, Reply, Who};
 pub use source::{Caps, Delta, Deltas, QueryLists, SourceQueries, SourceQuery, Xid};
