@@ -1,0 +1,143 @@
+-- What a run of the program prints and answers, over what it was handed.
+use Rattle.std.specs.Prelude.{◌≡◌, ◌⊎◌, ℕ, ◌+◌, ◌≤◌, Bool, true, false, if◌then◌else◌, List, [], ◌∷◌, ◌++◌, length, take, Option, Some, None, Result, Ok, Err, IfSome, ⊤}
+use Rattle.vdb_base.specs.Counts.{Rose}
+use Rattle.vdb_base.specs.Feeding.{FeedTold, prepended, IsAtEnd}
+use Rattle.vdb_base.specs.Printing.{SinkTold, Prints}
+use Rattle.vdb_model.specs.declared.reply.Reply.{Reply}
+use Rattle.vdb_model.specs.declared.table.TableDef.{TableDef}
+use Rattle.vdb_model.specs.Defined.{Defined}
+use Rattle.vdb_model.specs.Rows.{Cells}
+use Rattle.resource.specs.Told.{Told}
+use Rattle.vdb.specs.declared.ending.Ending.{Ending}
+use Rattle.vdb.specs.declared.ending.Ending.TheVariants as ending
+use Rattle.vdb.specs.declared.parts.Parts.{Parts}
+use Rattle.vdb.specs.declared.reading.TheConstants.{SCRIPT_LIMIT}
+use Rattle.vdb.specs.declared.words.Setup.{Setup}
+use Rattle.vdb.specs.Script.{Piece, statements_of}
+use Rattle.vdb.specs.Meaning.{Done}
+use Rattle.vdb.specs.LaneFacts.{RoseAt, world_under}
+use Rattle.vdb.specs.Engine.{lanes_of, counts, Stays, DeploysOn, ReadsAs, IsRefused}
+use Rattle.vdb.specs.Answering.{seen_in, replies_text}
+use Rattle.vdb.specs.Ending.{status_of, last_line}
+use Rattle.vdb.specs.Making.{MakerTold}
+use Rattle.vdb.specs.Running.{connection_of}
+use Rattle.vdb.specs.Words.{setup_of}
+
+-- what holds of the parts that a maker holds, where it tells them
+abbrev pub WhereHeld : {S : Type 0} → MakerTold S → (Parts S → Type 0) → Type 0
+WhereHeld maker P = IfSome maker.held (λ held. IfSome held P)
+
+-- what holds of the parts that a maker held and those that it holds, where it tells them
+abbrev pub WhereBothHeld : {S : Type 0} → MakerTold S → MakerTold S → (Parts S → Parts S → Type 0) → Type 0
+WhereBothHeld old new P = WhereHeld old (λ parts. WhereHeld new (λ after. P parts after))
+
+-- The parts that were held are held again, and what their stores hold stays; where it isn't told what is held, it still
+-- isn't.
+abbrev pub HeldAgain : {S : Type 0} → (S → Told) → Option (Option (Parts S)) → Option (Option (Parts S)) → Type 0
+HeldAgain told None new = new ≡ None
+HeldAgain told (Some None) new = new ≡ Some None
+HeldAgain {S} told (Some (Some parts)) new = (after : Parts S) × (new ≡ Some (Some after)) × Stays told parts after
+
+-- the rows of the held parts under definitions, where they are told
+abbrev pub held_world : {S : Type 0} → (S → Told) → List TableDef → Option (Option (Parts S)) → Option (List (List Cells))
+held_world told defs None = None
+held_world told defs (Some None) = None
+held_world told defs (Some (Some parts)) = world_under defs (lanes_of told parts)
+
+-- replies to the first of these statements, one each
+abbrev pub Replies : Defined → Option (List (List Cells)) → List Piece → List Reply → Type 0
+Replies cat world pieces [] = ⊤
+Replies cat world [] (r ∷ rs) = ⊥
+Replies cat world (p ∷ ps) (r ∷ rs) = Done cat world p r × Replies cat world ps rs
+
+-- one reply to each of these statements, and no other
+abbrev pub RepliesToAll : Defined → Option (List (List Cells)) → List Piece → List Reply → Type 0
+RepliesToAll cat world pieces replies = Replies cat world pieces replies × (length replies ≡ length pieces)
+
+-- the held parts deploy on the connection, this is what they define, and their contents keep its rules
+pub record Opens {S : Type 0} (told : S → Told) (setup : Setup) (cat : Defined) (parts : Parts S) : Type 0 where
+  pub deploys : DeploysOn parts.ddl (connection_of setup.conns) (lanes_of told parts) cat
+  pub reads : ReadsAs (connection_of setup.conns) cat.tables (lanes_of told parts) None
+
+-- no count rose: of the maker, the feed, or where the parts are told of a resource
+pub record Quiet {S : Type 0} (told : S → Told) (old new : MakerTold S) (feed feed' : FeedTold) : Type 0 where
+  pub maker : new.faults ≡ old.faults
+  pub feed_stays : feed'.faults ≡ feed.faults
+  pub lanes : WhereBothHeld old new (λ parts after. counts told after ≡ counts told parts)
+
+-- all that a run leaves behind: what was taken from the feed, what the held parts define, and the replies
+pub record Trace : Type 0 where
+  pub taken : List ℕ
+  pub cat : Defined
+  pub world : Option (List (List Cells))
+  pub replies : List Reply
+
+-- each of these statements was answered, over parts that open
+pub record AnsweredAll {S : Type 0} (told : S → Told) (setup : Setup) (old : MakerTold S) (t : Trace) (pieces : List Piece) : Type 0 where
+  pub opens : WhereHeld old (Opens told setup t.cat)
+  pub replies : RepliesToAll t.cat t.world pieces t.replies
+
+-- nothing was read, and no statement was answered
+pub record Unread (feed feed' : FeedTold) (t : Trace) : Type 0 where
+  pub unread : feed' ≡ feed
+  pub none : t.replies ≡ []
+
+-- The ending and its cause: the object whose count rose, or none, and how the reading ended.
+abbrev pub Ends : {S : Type 0} → (S → Told) → Setup → MakerTold S → MakerTold S → FeedTold → FeedTold → Trace → Ending → Type 0
+Ends told setup old new feed feed' t (ending.Usage word) = ⊥
+Ends told setup old new feed feed' t ending.MakerFailed = Rose old.faults new.faults × Unread feed feed' t
+Ends told setup old new feed feed' t ending.Memory = Quiet told old new feed feed'
+Ends told setup old new feed feed' t (ending.Deploy f) =
+    Quiet told old new feed feed' × Unread feed feed' t × WhereHeld old (λ parts. IsRefused parts.ddl (connection_of setup.conns) (lanes_of told parts) f)
+Ends told setup old new feed feed' t (ending.LaneFailed lane) =
+    (new.faults ≡ old.faults) × WhereBothHeld old new (λ parts after. RoseAt lane (counts told parts) (counts told after))
+Ends told setup old new feed feed' t ending.FeedFailed =
+    (new.faults ≡ old.faults) × Rose feed.faults feed'.faults × (length t.taken ≤ SCRIPT_LIMIT) × AnsweredAll told setup old t (statements_of t.taken false)
+Ends told setup old new feed feed' t ending.SinkFailed = new.faults ≡ old.faults
+Ends told setup old new feed feed' t ending.TooLong =
+    Quiet told old new feed feed' × (length t.taken ≡ SCRIPT_LIMIT + 1) × AnsweredAll told setup old t (statements_of (take SCRIPT_LIMIT t.taken) false)
+Ends told setup old new feed feed' t (ending.Whole seen) =
+    Quiet told old new feed feed' × (length t.taken ≤ SCRIPT_LIMIT) × IsAtEnd feed'.left × (seen ≡ seen_in t.replies) × AnsweredAll told setup old t (statements_of t.taken true)
+
+-- What a run over words of the form says. The bytes that were taken from the feed are cut into statements. What was printed
+-- is the text of the replies to the first of them, which the definitions give over the rows that the held parts told, and
+-- then at most one last line; where the sink failed it is the first of that. The status and the last line are those of the
+-- ending, whose cause is told; and what the stores hold stays.
+pub record Runs {S : Type 0} (told : S → Told) (setup : Setup) (old new : MakerTold S) (feed feed' : FeedTold) (out out' : SinkTold) (status : ℕ) : Type 0 where
+  pub trace : Trace
+  pub end : Ending
+  pub ended : Bool
+  pub whole : Bool
+  pub world_is : trace.world ≡ held_world told trace.cat.tables old.held
+  pub took : feed.left ≡ prepended trace.taken feed'.left
+  pub each : Replies trace.cat trace.world (statements_of (take SCRIPT_LIMIT trace.taken) ended) trace.replies
+  pub printed : Prints whole out out' (replies_text trace.replies ++ last_line setup.conns end)
+  pub status_is : status ≡ (if whole then status_of end else 4)
+  pub cut : end ≡ ending.SinkFailed → whole ≡ false
+  pub ends : Ends told setup old new feed feed' trace end
+  pub kept : HeldAgain told old.held new.held
+
+-- Words that have no form: their first wrong or missing place is printed, and nobody else is asked anything.
+pub record Misused {S : Type 0} (word : ℕ) (old new : MakerTold S) (feed feed' : FeedTold) (out out' : SinkTold) (status : ℕ) : Type 0 where
+  pub whole : Bool
+  pub printed : Prints whole out out' (last_line [] (ending.Usage word))
+  pub status_is : status ≡ (if whole then 2 else 4)
+  pub maker : new ≡ old
+  pub unread : feed' ≡ feed
+
+-- Memory was wanting for the words alone.
+pub record Starved {S : Type 0} (old new : MakerTold S) (feed feed' : FeedTold) (out out' : SinkTold) (status : ℕ) : Type 0 where
+  pub whole : Bool
+  pub printed : Prints whole out out' (last_line [] ending.Memory)
+  pub status_is : status ≡ (if whole then 5 else 4)
+  pub maker : new ≡ old
+  pub unread : feed' ≡ feed
+
+abbrev pub RunsWords : {S : Type 0} → (S → Told) → Result Setup ℕ → MakerTold S → MakerTold S → FeedTold → FeedTold → SinkTold → SinkTold → ℕ → Type 0
+RunsWords told (Ok setup) old new feed feed' out out' status = Runs told setup old new feed feed' out out' status
+RunsWords told (Err word) old new feed feed' out out' status = Misused word old new feed feed' out out' status
+
+-- what the program says of its words, or that memory was wanting for them
+abbrev pub Headline : {S : Type 0} → (S → Told) → List (List ℕ) → MakerTold S → MakerTold S → FeedTold → FeedTold → SinkTold → SinkTold → ℕ → Type 0
+Headline told words old new feed feed' out out' status =
+    RunsWords told (setup_of words) old new feed feed' out out' status ⊎ Starved old new feed feed' out out' status

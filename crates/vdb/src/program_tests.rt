@@ -1,0 +1,249 @@
+//! What no clause says: what runs of the program print, seen whole.
+
+use crate::maker::ReadyMaker;
+use crate::parts::Parts;
+use crate::program::program;
+use resource::{Lane, Lanes, MemResource, StoredTable, Tables};
+use std::alloc::Global;
+use std::test::Fail;
+use std::thread::Threads;
+use vdb_base::{MemFeed, MemSink, NoMemory, Row, Seq, Text, Value};
+use vdb_model::{Caps, Kind};
+
+const PLAIN: Caps = Caps {
+    equals: false,
+    ordered: false,
+    in_max: 0,
+    is_null: false,
+    like: false,
+    or: false,
+    not: false,
+    joins: false,
+    distinct: false,
+    order: false,
+    limit: false,
+    count_star: false,
+    wide: true,
+    writes: true,
+};
+
+const WORDS: &str = "run one.ddl crm=csv:data";
+
+const DDL: &str =
+    "CREATE SERVER crm FOREIGN DATA WRAPPER csv;CREATE SCHEMA c SERVER crm;SET SCHEMA c;CREATE FOREIGN TABLE cust (id integer, name string);";
+
+#[derive(Clone, Copy)]
+enum Cell {
+    Null,
+    Num(i128),
+    Str(&'static str),
+}
+
+const CUST: [[Cell; 2]; 3] = [
+    [Cell::Num(1), Cell::Str("Ann")],
+    [Cell::Num(2), Cell::Str("Bob")],
+    [Cell::Num(3), Cell::Null],
+];
+
+/// The numbers of the calls that fail.
+#[derive(Clone, Copy)]
+struct Fails<'a> {
+    maker: &'a [u32],
+    lane: &'a [u32],
+    feed: &'a [u32],
+    sink: &'a [u32],
+}
+
+const NONE: Fails<'static> = Fails {
+    maker: &[],
+    lane: &[],
+    feed: &[],
+    sink: &[],
+};
+
+fn seq<T: Copy + Drop>(alloc: Global, items: &[T]) -> Result<Seq<T>, NoMemory> {
+    let mut made = Seq::new(alloc);
+    for item in items {
+        made.push(*item)?;
+    }
+    Ok(made)
+}
+
+fn row(alloc: Global, cells: &[Cell]) -> Result<Row, NoMemory> {
+    let mut made = Seq::new(alloc);
+    for cell in cells {
+        made.push(match cell {
+            Cell::Null => Value::Null,
+            Cell::Num(number) => Value::Num(*number),
+            Cell::Str(text) => Value::Str(Text::from_str(alloc, text)?),
+        })?;
+    }
+    Ok(made)
+}
+
+/// The one table, stored as `cust`.
+fn stored(alloc: Global, cust: &[[Cell; 2]]) -> Result<Tables, NoMemory> {
+    let mut rows = Seq::new(alloc);
+    for cells in cust {
+        rows.push(row(alloc, cells.as_slice())?)?;
+    }
+    let mut tables = Seq::new(alloc);
+    tables.push(StoredTable {
+        source: Text::from_str(alloc, "cust")?,
+        rows,
+    })?;
+    Ok(tables)
+}
+
+/// The DDL and the one lane, named crm.
+fn parts(
+    alloc: Global,
+    ddl: &str,
+    cust: &[[Cell; 2]],
+    fails: &[u32],
+) -> Result<Parts<MemResource>, Fail> {
+    let res = MemResource::new(alloc, stored(alloc, cust)?, PLAIN, seq(alloc, fails)?);
+    let lane = Lane::new(Text::from_str(alloc, "crm")?, Kind::Csv, res);
+    Ok(Parts {
+        ddl: seq(alloc, ddl.as_bytes())?,
+        lanes: Lanes::from_vec(vec![in alloc; lane]?),
+    })
+}
+
+/// What a run printed, and its status.
+fn run<R: Threads + Sync>(
+    rt: &R,
+    alloc: Global,
+    line: &str,
+    ddl: &str,
+    cust: &[[Cell; 2]],
+    script: &str,
+    fails: Fails<'_>,
+) -> Result<String, Fail> {
+    let mut words = Vec::new(alloc);
+    for word in line.split(' ') {
+        words.push(String::from_str(alloc, word)?)?;
+    }
+    let parts = parts(alloc, ddl, cust, fails.lane)?;
+    let mut maker = ReadyMaker::new(parts, seq(alloc, fails.maker)?);
+    let mut feed = MemFeed::new(
+        seq(alloc, script.as_bytes())?,
+        Seq::new(alloc),
+        seq(alloc, fails.feed)?,
+    );
+    let mut sink = MemSink::new(alloc, seq(alloc, fails.sink)?);
+    let status = program(rt, alloc, &words, &mut maker, &mut feed, &mut sink);
+    let Ok(printed) = std::str::from_utf8(sink.bytes()) else {
+        return Err("what was printed is no text".into());
+    };
+    Ok(format!(in alloc; "{printed}|{status}")?)
+}
+
+/// Scripts, and what runs of them print.
+const SCRIPTS: [(&str, &str); 11] = [
+    (
+        "SELECT id, name FROM c.cust WHERE name = 'Bob';",
+        "COLUMNS id,name\nROW 2,'Bob'\nEND 1\n|0",
+    ),
+    (
+        "SELECT id, name FROM c.cust;",
+        "COLUMNS id,name\nROW 1,'Ann'\nROW 2,'Bob'\nROW 3,NULL\nEND 3\n|0",
+    ),
+    (
+        "SELECT name FROM cust WHERE name = 'Cid';",
+        "COLUMNS name\nEND 0\n|0",
+    ),
+    (
+        "select NAME, id from cust where id = 3",
+        "COLUMNS name,id\nROW NULL,3\nEND 1\n|0",
+    ),
+    (
+        "SELECT id FROM cust WHERE id = 1;\nSELECT name FROM cust WHERE name = 'Ann'",
+        "COLUMNS id\nROW 1\nEND 1\nCOLUMNS name\nROW 'Ann'\nEND 1\n|0",
+    ),
+    (
+        "SELECT id FROM cust WHERE name = NULL;",
+        "REFUSED 1 at 0\n|1",
+    ),
+    ("SELECT id FROM c.custs;", "REFUSED 2 c.custs\n|1"),
+    (
+        "SELECT x FROM cust; SELECT FROM cust; SELECT id FROM cust WHERE id = 2;",
+        "REFUSED 2 x\nREFUSED 1 at 20\nCOLUMNS id\nROW 2\nEND 1\n|1",
+    ),
+    (
+        "; SELECT id FROM cust WHERE id = 'x';",
+        "REFUSED 4 at 31\n|1",
+    ),
+    ("", "|0"),
+    ("-- nothing\n;;", "|0"),
+];
+
+#[test]
+fn answers_scripts(rt: HostRuntime) -> Result<(), Fail> {
+    let alloc = rt.alloc();
+    for (script, wanted) in SCRIPTS {
+        assert_eq!(rt;
+            run(&rt, alloc, WORDS, DDL, CUST.as_slice(), script, NONE)?.as_str(),
+            wanted,
+            "at {script}"
+        );
+    }
+    Ok(())
+}
+
+#[test]
+fn refuses_starts(rt: HostRuntime) -> Result<(), Fail> {
+    let alloc = rt.alloc();
+    let bad = [
+        [Cell::Num(1), Cell::Str("Ann")],
+        [Cell::Num(2), Cell::Num(7)],
+    ];
+    let good = CUST.as_slice();
+    let table: [(&str, &str, &[[Cell; 2]], &str); 6] = [
+        ("go", DDL, good, "USAGE 1\n|2"),
+        ("run one.ddl", DDL, good, "USAGE 3\n|2"),
+        ("run one.ddl crm=csv:data x", DDL, good, "USAGE 4\n|2"),
+        ("run one.ddl erp=csv:data", DDL, good, "FAULT maker\n|4"),
+        (WORDS, "CREATE SERVER crm;", good, "DEPLOY 31 at 0\n|3"),
+        (WORDS, DDL, bad.as_slice(), "DEPLOY 41 crm c.cust 2 2\n|3"),
+    ];
+    for (line, ddl, cust, wanted) in table {
+        assert_eq!(rt;
+            run(&rt, alloc, line, ddl, cust, "SELECT id FROM cust", NONE)?.as_str(),
+            wanted,
+            "at {wanted}"
+        );
+    }
+    Ok(())
+}
+
+#[test]
+fn ends_at_faults(rt: HostRuntime) -> Result<(), Fail> {
+    let alloc = rt.alloc();
+    let script = "SELECT id FROM cust WHERE id = 2; SELECT name FROM cust";
+    let reply = "COLUMNS id\nROW 2\nEND 1\n";
+    let table: [(Fails<'_>, &str, &str); 7] = [
+        (
+            Fails {
+                maker: &[1],
+                ..NONE
+            },
+            "",
+            "FAULT maker\n|4",
+        ),
+        (Fails { lane: &[1], ..NONE }, "", "FAULT crm\n|4"),
+        (Fails { lane: &[2], ..NONE }, "", "FAULT crm\n|4"),
+        (Fails { lane: &[3], ..NONE }, reply, "FAULT crm\n|4"),
+        (Fails { feed: &[1], ..NONE }, "", "FAULT feed\n|4"),
+        (Fails { feed: &[2], ..NONE }, reply, "FAULT feed\n|4"),
+        (Fails { sink: &[1], ..NONE }, "", "|4"),
+    ];
+    for (fails, first, last) in table {
+        let wanted = format!(in alloc; "{first}{last}")?;
+        assert_eq!(rt;
+            run(&rt, alloc, WORDS, DDL, CUST.as_slice(), script, fails)?.as_str(),
+            wanted.as_str()
+        );
+    }
+    Ok(())
+}

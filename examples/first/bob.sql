@@ -1,0 +1,1 @@
+SELECT id, name FROM c.cust WHERE name = 'Bob';
