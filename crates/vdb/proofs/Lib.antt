@@ -1,5 +1,6 @@
 pub mod AnswerSteps
 pub mod Asked
+pub mod Causes
 pub mod Cuts
 pub mod DdlComplete
 pub mod DdlLoops

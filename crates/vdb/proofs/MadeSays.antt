@@ -32,7 +32,7 @@ use Rattle.vdb.specs.Making.{MakerTold, Takes, GivesBack}
 use Rattle.vdb.specs.Session.{pieces_read}
 use Rattle.vdb.specs.Running.{connection_of, IsMadeRun, IsRun}
 use Rattle.vdb.specs.Headline.{held_world, Replies, RepliesToAll, Opens, AnsweredAll, Quiet, Ends}
-use Rattle.vdb.proofs.RunSays.{is_sink, trace_of, Says, Says-nothing, Says-not_made, Stays-trans, engine-stays, where-held, where-both, held-again}
+use Rattle.vdb.proofs.RunSays.{is_sink, trace_of, Says, Says-nothing, Says-not_made, Stays-trans, engine-stays, where-held, where-both, held-again, lane-rose}
 
 -- replies over rows that are told are replies over rows that are not
 Done-untold : (cat : Defined) (w : Option (List (List Cells))) (p : Piece) (r : Reply) → Done cat w p r → Done cat None p r
@@ -107,7 +107,7 @@ module _ {S : Type 0} (told : S → Told) (setup : Setup) (old new mid : MakerTo
     record { unread = e; none = refl },
     where-held old.held mid.held parts (λ p. IsRefused p.ddl (connection_of setup.conns) (lanes_of told p) d) t r,
   )
-  refused-ends after (fault.Failed lane) t g n e c r = (n, where-both old.held mid.held new.held parts after (λ p q. RoseAt lane (counts told p) (counts told q)) t g c)
+  refused-ends after (fault.Failed lane) t g n e c r = (n, lane-rose told lane old.held mid.held new.held parts after t g c)
   refused-ends after fault.Memory t g n e c r =
       record { maker = n; feed_stays = ap (λ (x : FeedTold). x.faults) e; lanes = where-both old.held mid.held new.held parts after (λ p q. counts told q ≡ counts told p) t g c }
 
@@ -155,7 +155,7 @@ module _ {S : Type 0} (told : S → Told) (setup : Setup) (old new mid : MakerTo
         → IsAnswered told (pieces_read bytes read) started after out out' answers → Says told setup old new feed feed' out out' (ending_of read answers)
     script-says read (answers.LaneFailed lane) took r a =
         answered-says read a.1 true (Some lane) a.2 _ took r a.3 refl
-        (n, where-both old.held mid.held new.held parts after.parts (λ p q. RoseAt lane (counts told p) (counts told q)) t g (subst (λ (ns : List ℕ). RoseAt lane ns (counts told after.parts)) s.counts_stay a.3.lanes))
+        (n, lane-rose told lane old.held mid.held new.held parts after.parts t g (subst (λ (ns : List ℕ). RoseAt lane ns (counts told after.parts)) s.counts_stay a.3.lanes))
     script-says read answers.SinkFailed took r a = answered-says read a.0 false None a.1 _ took r a.2 refl n
     script-says end.Whole (answers.Whole seen) took r a =
         answered-says end.Whole [] true None seen _ took r a refl (

@@ -1,5 +1,5 @@
 -- What the program says, from what its run says and from its last line.
-use Rattle.std.proofs.Common.{◌≡◌, inl, ℕ, Bool, true, false, if◌then◌else◌, List, [], ◌++◌, Ok, refl, sym, ap, ◌∙◌, subst, arith}
+use Rattle.std.proofs.Common.{◌≡◌, inl, inr, ℕ, Bool, true, false, if◌then◌else◌, List, [], ◌++◌, Ok, refl, sym, ap, ◌∙◌, subst, arith}
 use Rattle.std.proofs.lemmas.List.{append-nil}
 use Rattle.std.proofs.Math.Seq.{take-nil}
 use Rattle.vdb_base.specs.Counts.{Rose}
@@ -9,11 +9,15 @@ use Rattle.vdb_base.proofs.Writing.{Prints-append, appended-nil}
 use Rattle.resource.specs.Told.{Told}
 use Rattle.vdb.specs.declared.ending.Ending.{Ending}
 use Rattle.vdb.specs.declared.ending.Ending.TheVariants as ending
+use Rattle.vdb.specs.declared.words.Conn.{Conn}
 use Rattle.vdb.specs.declared.words.Setup.{Setup}
+use Rattle.vdb.specs.declared.words.WordsFault.{WordsFault}
+use Rattle.vdb.specs.declared.words.WordsFault.TheVariants as fault
 use Rattle.vdb.specs.Answering.{replies_text}
 use Rattle.vdb.specs.Ending.{last_line, status_of}
 use Rattle.vdb.specs.Making.{MakerTold}
-use Rattle.vdb.specs.Running.{IsRun, Finishes}
+use Rattle.vdb.specs.Running.{IsRun, Finishes, words_ending}
+use Rattle.vdb.specs.Usage.{IsUsage}
 use Rattle.vdb.specs.Words.{setup_of}
 use Rattle.vdb.specs.Headline.{Runs, Headline}
 use Rattle.vdb.proofs.RunSays.{trace_of, Says}
@@ -76,3 +80,12 @@ module _ {S : Type 0} (told : S → Told) (setup : Setup) (old new : MakerTold S
   pub headline-of : (words : List (List ℕ)) (e : Ending) → setup_of words ≡ Ok setup → IsRun told setup old new feed feed' out mid e → Finishes setup.conns e mid out' status
       → Headline told words old new feed feed' out out' status
   headline-of words e w r f = inl (rw w (runs-of e (Says-run told setup old new feed feed' out mid e r) f))
+
+module _ {S : Type 0} (told : S → Told) (words : List (List ℕ)) (maker : MakerTold S) (feed : FeedTold) (conns : List Conn) (out out' : SinkTold) (status : ℕ) where
+  unread_says : (f : WordsFault) → IsUsage (setup_of words) f → Finishes conns (words_ending f) out out' status → Headline told words maker maker feed feed out out' status
+  unread_says (fault.Usage word) u f = inl (rw u record { whole = f.whole; printed = f.printed; status_is = f.status_is; maker = refl; unread = refl })
+  unread_says fault.Memory u f = inr record { whole = f.whole; printed = f.printed; status_is = f.status_is; maker = refl; unread = refl }
+
+  -- words that were not read
+  pub headline-unread : (f : WordsFault) (e : Ending) → IsUsage (setup_of words) f → e ≡ words_ending f → Finishes conns e out out' status → Headline told words maker maker feed feed out out' status
+  headline-unread f e u q h = unread_says f u (subst (λ (e : Ending). Finishes conns e out out' status) q h)

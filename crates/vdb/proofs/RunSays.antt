@@ -12,14 +12,14 @@ use Rattle.vdb.specs.declared.parts.Parts.{Parts}
 use Rattle.vdb.specs.declared.reading.TheConstants.{SCRIPT_LIMIT}
 use Rattle.vdb.specs.declared.words.Setup.{Setup}
 use Rattle.vdb.specs.Script.{statements_of}
-use Rattle.vdb.specs.LaneFacts.{attached, store}
+use Rattle.vdb.specs.LaneFacts.{RoseAt, attached, store}
 use Rattle.vdb.specs.Engine.{lanes_of, counts, Stays}
 use Rattle.vdb.specs.Answer.{EngineStays}
 use Rattle.vdb.specs.Answering.{replies_text}
 use Rattle.vdb.specs.declared.parts.Opened.{Opened}
 use Rattle.vdb.specs.Making.{MakerTold, Takes, GivesBack}
 use Rattle.vdb.specs.Running.{IsNotMade}
-use Rattle.vdb.specs.Headline.{HeldAgain, held_world, Replies, Trace, Ends}
+use Rattle.vdb.specs.Headline.{HeldAgain, LaneRose, held_world, Replies, Trace, Ends}
 
 abbrev pub is_sink : Ending → Bool
 is_sink ending.SinkFailed = true
@@ -74,7 +74,7 @@ where-both (Some h) mid n parts after P t g p =
     subst (λ (h : Option (Parts _)). IfSome h (λ p. IfSome n (λ held. IfSome held (λ q. P p q)))) (sym t.0) q
 
 -- what holds of parts that stayed
-where-same : {S : Type 0} (o n : Option (Option (Parts S))) (P : Parts S → Parts S → Type 0) → n ≡ o → ((p : Parts S) → P p p) → IfSome o (λ held. IfSome held (λ p. IfSome n (λ held. IfSome held (λ q. P p q))))
+pub where-same : {S : Type 0} (o n : Option (Option (Parts S))) (P : Parts S → Parts S → Type 0) → n ≡ o → ((p : Parts S) → P p p) → IfSome o (λ held. IfSome held (λ p. IfSome n (λ held. IfSome held (λ q. P p q))))
 where-same None n P e h = tt
 where-same (Some None) n P e h = tt
 where-same (Some (Some p)) n P e h = subst (λ (n : Option (Option (Parts _))). IfSome n (λ held. IfSome held (λ q. P p q))) (sym e) (h p)
@@ -85,6 +85,14 @@ held-again told None mid n parts after t g s = subst (λ (m : Option (Option (Pa
 held-again told (Some h) mid n parts after t g s =
     let b : n ≡ Some (Some after) = subst (λ (m : Option (Option (Parts _))). GivesBack m n after) t.1 g in
     subst (λ (h : Option (Parts _)). HeldAgain told (Some h) n) (sym t.0) (after, b, s)
+
+-- a lane of parts that were made and kept failed
+pub lane-rose : {S : Type 0} (told : S → Told) (lane : ℕ) (o mid n : Option (Option (Parts S))) (parts after : Parts S) → Takes o mid parts → GivesBack mid n after
+    → RoseAt lane (counts told parts) (counts told after) → LaneRose told lane o n
+lane-rose told lane None mid n parts after t g p = tt
+lane-rose told lane (Some h) mid n parts after t g p =
+    let b : n ≡ Some (Some after) = subst (λ (m : Option (Option (Parts _))). GivesBack m n after) t.1 g in
+    subst (λ (h : Option (Parts _)). LaneRose told lane (Some h) n) (sym t.0) (after, b, p)
 
 -- parts that stayed with the maker
 held-same : {S : Type 0} (told : S → Told) (o n : Option (Option (Parts S))) → n ≡ o → HeldAgain told o n

@@ -11,9 +11,8 @@ use Rattle.resource.specs.Told.{Told}
 use Rattle.vdb.specs.declared.ending.Ending.{Ending}
 use Rattle.vdb.specs.declared.ending.Ending.TheVariants as ending
 use Rattle.vdb.specs.declared.parts.Parts.{Parts}
-use Rattle.vdb.specs.declared.reading.TheConstants.{SCRIPT_LIMIT}
 use Rattle.vdb.specs.declared.words.Setup.{Setup}
-use Rattle.vdb.specs.Script.{Piece, statements_of}
+use Rattle.vdb.specs.Script.{script_limit, Piece, statements_of}
 use Rattle.vdb.specs.Meaning.{Done}
 use Rattle.vdb.specs.LaneFacts.{RoseAt, world_under}
 use Rattle.vdb.specs.Engine.{lanes_of, counts, Stays, DeploysOn, ReadsAs, IsRefused}
@@ -37,6 +36,13 @@ abbrev pub HeldAgain : {S : Type 0} → (S → Told) → Option (Option (Parts S
 HeldAgain told None new = new ≡ None
 HeldAgain told (Some None) new = new ≡ Some None
 HeldAgain {S} told (Some (Some parts)) new = (after : Parts S) × (new ≡ Some (Some after)) × Stays told parts after
+
+-- Of the parts that were held and are held again the count of this lane rose. Where nothing was held no lane can have failed;
+-- where it isn't told what is held, this says nothing.
+abbrev pub LaneRose : {S : Type 0} → (S → Told) → ℕ → Option (Option (Parts S)) → Option (Option (Parts S)) → Type 0
+LaneRose told lane None new = ⊤
+LaneRose told lane (Some None) new = ⊥
+LaneRose {S} told lane (Some (Some parts)) new = (after : Parts S) × (new ≡ Some (Some after)) × RoseAt lane (counts told parts) (counts told after)
 
 -- the rows of the held parts under definitions, where they are told
 abbrev pub held_world : {S : Type 0} → (S → Told) → List TableDef → Option (Option (Parts S)) → Option (List (List Cells))
@@ -90,14 +96,14 @@ Ends told setup old new feed feed' t ending.Memory = Quiet told old new feed fee
 Ends told setup old new feed feed' t (ending.Deploy f) =
     Quiet told old new feed feed' × Unread feed feed' t × WhereHeld old (λ parts. IsRefused parts.ddl (connection_of setup.conns) (lanes_of told parts) f)
 Ends told setup old new feed feed' t (ending.LaneFailed lane) =
-    (new.faults ≡ old.faults) × WhereBothHeld old new (λ parts after. RoseAt lane (counts told parts) (counts told after))
+    (new.faults ≡ old.faults) × LaneRose told lane old.held new.held
 Ends told setup old new feed feed' t ending.FeedFailed =
-    (new.faults ≡ old.faults) × Rose feed.faults feed'.faults × (length t.taken ≤ SCRIPT_LIMIT) × AnsweredAll told setup old t (statements_of t.taken false)
+    (new.faults ≡ old.faults) × Rose feed.faults feed'.faults × (length t.taken ≤ script_limit) × AnsweredAll told setup old t (statements_of t.taken false)
 Ends told setup old new feed feed' t ending.SinkFailed = new.faults ≡ old.faults
 Ends told setup old new feed feed' t ending.TooLong =
-    Quiet told old new feed feed' × (length t.taken ≡ SCRIPT_LIMIT + 1) × AnsweredAll told setup old t (statements_of (take SCRIPT_LIMIT t.taken) false)
+    Quiet told old new feed feed' × (length t.taken ≡ script_limit + 1) × AnsweredAll told setup old t (statements_of (take script_limit t.taken) false)
 Ends told setup old new feed feed' t (ending.Whole seen) =
-    Quiet told old new feed feed' × (length t.taken ≤ SCRIPT_LIMIT) × IsAtEnd feed'.left × (seen ≡ seen_in t.replies) × AnsweredAll told setup old t (statements_of t.taken true)
+    Quiet told old new feed feed' × (length t.taken ≤ script_limit) × IsAtEnd feed'.left × (seen ≡ seen_in t.replies) × AnsweredAll told setup old t (statements_of t.taken true)
 
 -- What a run over words of the form says. The bytes that were taken from the feed are cut into statements. What was printed
 -- is the text of the replies to the first of them, which the definitions give over the rows that the held parts told, and
@@ -110,7 +116,7 @@ pub record Runs {S : Type 0} (told : S → Told) (setup : Setup) (old new : Make
   pub whole : Bool
   pub world_is : trace.world ≡ held_world told trace.cat.tables old.held
   pub took : feed.left ≡ prepended trace.taken feed'.left
-  pub each : Replies trace.cat trace.world (statements_of (take SCRIPT_LIMIT trace.taken) ended) trace.replies
+  pub each : Replies trace.cat trace.world (statements_of (take script_limit trace.taken) ended) trace.replies
   pub printed : Prints whole out out' (replies_text trace.replies ++ last_line setup.conns end)
   pub status_is : status ≡ (if whole then status_of end else 4)
   pub cut : end ≡ ending.SinkFailed → whole ≡ false

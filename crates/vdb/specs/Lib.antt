@@ -1,5 +1,6 @@
 pub mod Answer
 pub mod Answering
+pub mod Causes
 pub mod Ddl
 pub mod DdlLaws
 pub mod DdlRoute

@@ -4,6 +4,10 @@ use Rattle.sql_reader.specs.declared.cut.Found.{Found}
 use Rattle.sql_reader.specs.declared.cut.Found.TheVariants.{Statement, More, End}
 use Rattle.sql_reader.specs.Laws.{statements}
 
+-- the most bytes that a script may have
+abbrev pub script_limit : ℕ
+script_limit = 16777216
+
 -- a statement: where it stands, and its bytes
 pub record Piece : Type 0 where
   pub at : ℕ

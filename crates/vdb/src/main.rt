@@ -13,6 +13,8 @@ mod ddl;
 mod deploy;
 mod ending;
 mod engine;
+#[cfg(test)]
+mod file_tests;
 mod files;
 mod lane_calls;
 mod last_line;
@@ -34,30 +36,58 @@ mod starting;
 mod statement;
 mod words;
 
+use ending::Ending;
 use files::FileMaker;
-use program::program;
+use program::{finish, program};
 use std::alloc::Global;
+use std::env;
+use std::io::{self, ErrorKind};
 use std::process::ExitCode;
 use std::rt::Runtime;
-use std::{env, io};
-use vdb_base::{StdFeed, StdSink};
+use vdb_base::{Seq, StdFeed, StdSink};
+
+/// Why the words behind the program's name can't be had.
+enum NoWords {
+    /// One of them isn't UTF-8.
+    NotText,
+    Memory,
+}
+
+fn no_words(error: &io::Error) -> NoWords {
+    match error.kind() {
+        ErrorKind::InvalidData => NoWords::NotText,
+        _ => NoWords::Memory,
+    }
+}
 
 /// The words behind the program's name.
-fn words_of(rt: &(impl Runtime + AllocGlobal), alloc: Global) -> io::Result<Vec<String>> {
+fn words_of(rt: &(impl Runtime + AllocGlobal), alloc: Global) -> Result<Vec<String>, NoWords> {
     let mut words = Vec::new(alloc);
-    for word in env::args(rt)?.skip(1) {
-        words.push(word)?;
+    let args = match env::args(rt) {
+        Ok(args) => args,
+        Err(error) => return Err(no_words(&error)),
+    };
+    for word in args.skip(1) {
+        if words.push(word).is_err() {
+            return Err(NoWords::Memory);
+        }
     }
     Ok(words)
 }
 
 fn main(rt: HostRuntime) -> ExitCode {
-    let Ok(words) = words_of(&rt, rt.alloc()) else {
-        return ExitCode::from(5);
+    let mut out = StdSink::new(io::writer(&rt));
+    let words = match words_of(&rt, rt.alloc()) {
+        Ok(words) => words,
+        // Words that aren't all text are no words, and `program` says so: the first is missing.
+        Err(NoWords::NotText) => Vec::new(rt.alloc()),
+        Err(NoWords::Memory) => {
+            let status = finish(&Ending::Memory, &Seq::new(rt.alloc()), &mut out);
+            return ExitCode::from(status);
+        }
     };
     let mut maker = FileMaker::new(&rt);
     let mut script = StdFeed::new(rt.reader());
-    let mut out = StdSink::new(io::writer(&rt));
     let status = program(&rt, rt.alloc(), &words, &mut maker, &mut script, &mut out);
     ExitCode::from(status)
 }

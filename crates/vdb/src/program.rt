@@ -4,6 +4,7 @@ ghost use Rattle.std.specs.Prelude.{◌≡◌, map, length};
 ghost use Rattle.std.specs.String.{string_bytes};
 ghost use Rattle.vdb.specs.Running.{IsRun, Finishes, words_ending, connection_of};
 ghost use Rattle.vdb.specs.Headline.{Headline};
+ghost use Rattle.vdb.specs.Causes.{Causes, Complete};
 
 use crate::ending::{Ending, status_of};
 use crate::last_line::print_last;
@@ -53,7 +54,7 @@ fn words_ending(fault: WordsFault) -> Ending
 }
 
 /// Prints the last line of an ending, if it has one, and answers the status.
-fn finish<O: Sink>(ending: &Ending, conns: &Conns, out: &mut O) -> u8
+pub fn finish<O: Sink>(ending: &Ending, conns: &Conns, out: &mut O) -> u8
     ensures { Finishes conns.now ending.now (O.told out.old) (O.told out.new) result }
 {
     match print_last(ending, conns, out) {
@@ -72,6 +73,8 @@ pub fn program<R: Threads + Sync, M: Maker, I: Feed, O: Sink>(
     out: &mut O,
 ) -> u8
     ensures headline { Headline M.S.told (map string_bytes words.now.items) (M.told maker.old) (M.told maker.new) (I.told script.old) (I.told script.new) (O.told out.old) (O.told out.new) result }
+    ensures causes { Causes M.S.told (map string_bytes words.now.items) (M.told maker.old) (M.told maker.new) (I.told script.old) (I.told script.new) (O.told out.old) (O.told out.new) result }
+    ensures complete { Complete M.S.told (map string_bytes words.now.items) (M.told maker.old) (I.told script.old) (I.told script.new) (O.told out.old) (O.told out.new) result }
 {
     let setup = match read_words(alloc, words) {
         Ok(setup) => setup,

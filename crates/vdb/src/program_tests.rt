@@ -7,7 +7,7 @@ use resource::{Lane, Lanes, MemResource, StoredTable, Tables};
 use std::alloc::Global;
 use std::test::Fail;
 use std::thread::Threads;
-use vdb_base::{MemFeed, MemSink, NoMemory, Row, Seq, Text, Value};
+use vdb_base::{Bytes, MemFeed, MemSink, NoMemory, Row, Seq, Text, Value};
 use vdb_model::{Caps, Kind};
 
 const PLAIN: Caps = Caps {
@@ -45,12 +45,13 @@ const CUST: [[Cell; 2]; 3] = [
     [Cell::Num(3), Cell::Null],
 ];
 
-/// The numbers of the calls that fail.
+/// The numbers of the calls that fail, and at most how many bytes each read gives.
 #[derive(Clone, Copy)]
 struct Fails<'a> {
     maker: &'a [u32],
     lane: &'a [u32],
     feed: &'a [u32],
+    cuts: &'a [u32],
     sink: &'a [u32],
 }
 
@@ -58,6 +59,7 @@ const NONE: Fails<'static> = Fails {
     maker: &[],
     lane: &[],
     feed: &[],
+    cuts: &[],
     sink: &[],
 };
 
@@ -111,6 +113,28 @@ fn parts(
 }
 
 /// What a run printed, and its status.
+fn run_bytes<R: Threads + Sync>(
+    rt: &R,
+    alloc: Global,
+    line: &str,
+    parts: Parts<MemResource>,
+    script: Bytes,
+    fails: Fails<'_>,
+) -> Result<String, Fail> {
+    let mut words = Vec::new(alloc);
+    for word in line.split(' ') {
+        words.push(String::from_str(alloc, word)?)?;
+    }
+    let mut maker = ReadyMaker::new(parts, seq(alloc, fails.maker)?);
+    let mut feed = MemFeed::new(script, seq(alloc, fails.cuts)?, seq(alloc, fails.feed)?);
+    let mut sink = MemSink::new(alloc, seq(alloc, fails.sink)?);
+    let status = program(rt, alloc, &words, &mut maker, &mut feed, &mut sink);
+    let Ok(printed) = std::str::from_utf8(sink.bytes()) else {
+        return Err("what was printed is no text".into());
+    };
+    Ok(format!(in alloc; "{printed}|{status}")?)
+}
+
 fn run<R: Threads + Sync>(
     rt: &R,
     alloc: Global,
@@ -120,23 +144,9 @@ fn run<R: Threads + Sync>(
     script: &str,
     fails: Fails<'_>,
 ) -> Result<String, Fail> {
-    let mut words = Vec::new(alloc);
-    for word in line.split(' ') {
-        words.push(String::from_str(alloc, word)?)?;
-    }
     let parts = parts(alloc, ddl, cust, fails.lane)?;
-    let mut maker = ReadyMaker::new(parts, seq(alloc, fails.maker)?);
-    let mut feed = MemFeed::new(
-        seq(alloc, script.as_bytes())?,
-        Seq::new(alloc),
-        seq(alloc, fails.feed)?,
-    );
-    let mut sink = MemSink::new(alloc, seq(alloc, fails.sink)?);
-    let status = program(rt, alloc, &words, &mut maker, &mut feed, &mut sink);
-    let Ok(printed) = std::str::from_utf8(sink.bytes()) else {
-        return Err("what was printed is no text".into());
-    };
-    Ok(format!(in alloc; "{printed}|{status}")?)
+    let script = seq(alloc, script.as_bytes())?;
+    run_bytes(rt, alloc, line, parts, script, fails)
 }
 
 /// Scripts, and what runs of them print.
@@ -222,7 +232,7 @@ fn ends_at_faults(rt: HostRuntime) -> Result<(), Fail> {
     let alloc = rt.alloc();
     let script = "SELECT id FROM cust WHERE id = 2; SELECT name FROM cust";
     let reply = "COLUMNS id\nROW 2\nEND 1\n";
-    let table: [(Fails<'_>, &str, &str); 7] = [
+    let table: [(Fails<'_>, &str, &str); 9] = [
         (
             Fails {
                 maker: &[1],
@@ -236,6 +246,24 @@ fn ends_at_faults(rt: HostRuntime) -> Result<(), Fail> {
         (Fails { lane: &[3], ..NONE }, reply, "FAULT crm\n|4"),
         (Fails { feed: &[1], ..NONE }, "", "FAULT feed\n|4"),
         (Fails { feed: &[2], ..NONE }, reply, "FAULT feed\n|4"),
+        (
+            Fails {
+                feed: &[2],
+                cuts: &[34],
+                ..NONE
+            },
+            reply,
+            "FAULT feed\n|4",
+        ),
+        (
+            Fails {
+                feed: &[3],
+                cuts: &[16, 16],
+                ..NONE
+            },
+            "",
+            "FAULT feed\n|4",
+        ),
         (Fails { sink: &[1], ..NONE }, "", "|4"),
     ];
     for (fails, first, last) in table {
@@ -243,6 +271,93 @@ fn ends_at_faults(rt: HostRuntime) -> Result<(), Fail> {
         assert_eq!(rt;
             run(&rt, alloc, WORDS, DDL, CUST.as_slice(), script, fails)?.as_str(),
             wanted.as_str()
+        );
+    }
+    Ok(())
+}
+
+/// A statement whose reply is longer than what is written at once.
+fn wide_statement(alloc: Global) -> Result<String, Fail> {
+    let mut script = String::from_str(alloc, "SELECT name")?;
+    script.push_str(",name".repeat(alloc, 2000)?.as_str())?;
+    script.push_str(" FROM cust;")?;
+    Ok(script)
+}
+
+#[test]
+fn a_failed_write_leaves_a_prefix(rt: HostRuntime) -> Result<(), Fail> {
+    let alloc = rt.alloc();
+    let mut script = wide_statement(alloc)?;
+    script.push_str("SELECT id FROM cust; SELECT none FROM cust")?;
+    let whole = run(
+        &rt,
+        alloc,
+        WORDS,
+        DDL,
+        CUST.as_slice(),
+        script.as_str(),
+        NONE,
+    )?;
+    let mut last_failed = 0;
+    for call in 1..20u32 {
+        let fails = Fails {
+            sink: &[call],
+            ..NONE
+        };
+        let ran = run(
+            &rt,
+            alloc,
+            WORDS,
+            DDL,
+            CUST.as_slice(),
+            script.as_str(),
+            fails,
+        )?;
+        match ran.as_str().strip_suffix("|4") {
+            Some(printed) => {
+                last_failed = call;
+                assert!(rt; whole.as_str().starts_with(printed));
+            }
+            None => assert_eq!(rt; ran.as_str(), whole.as_str()),
+        }
+    }
+    assert!(rt; whole.as_str().ends_with("REFUSED 2 none\n|1"));
+    assert!(rt; 5 < last_failed && last_failed < 19);
+    for line in ["run one.ddl", WORDS] {
+        let fails = Fails { sink: &[1], ..NONE };
+        assert_eq!(rt;
+            run(&rt, alloc, line, "", CUST.as_slice(), "", fails)?.as_str(),
+            "|4"
+        );
+    }
+    Ok(())
+}
+
+#[test]
+fn a_script_ends_at_its_limit(rt: HostRuntime) -> Result<(), Fail> {
+    let alloc = rt.alloc();
+    let table: [(&str, usize, &str); 4] = [
+        ("", 16_777_216, "|0"),
+        ("", 16_777_217, "TOO LONG\n|6"),
+        (
+            "SELECT id FROM cust WHERE id = 2; SELECT name FROM cust",
+            16_777_216,
+            "COLUMNS id\nROW 2\nEND 1\nCOLUMNS name\nROW 'Ann'\nROW 'Bob'\nROW NULL\nEND 3\n|0",
+        ),
+        (
+            "SELECT id FROM cust WHERE id = 2; SELECT name FROM cust",
+            16_777_217,
+            "COLUMNS id\nROW 2\nEND 1\nTOO LONG\n|6",
+        ),
+    ];
+    for (front, length, wanted) in table {
+        let mut script = String::from_str(alloc, front)?;
+        script.push_str(" ".repeat(alloc, length - front.len())?.as_str())?;
+        let script = Seq::from_vec(script.into_bytes());
+        let parts = parts(alloc, DDL, CUST.as_slice(), &[])?;
+        assert_eq!(rt;
+            run_bytes(&rt, alloc, WORDS, parts, script, NONE)?.as_str(),
+            wanted
         );
     }
     Ok(())

@@ -1,0 +1,107 @@
+//! Work for the scripts of `bench/`: single crates, driven by two words.
+//!
+//! `bench_work WHAT HOW_MUCH` does one piece of work and prints what came of it: `log` and `bare` add records to a file
+//! in the current folder, by the log and by the same calls without it; `join`, `group` and `sort` run one relational
+//! operator over rows that it makes. The scripts time it. It promises nothing but that it is safe and ends.
+#![tactic(auto)]
+
+mod logs;
+mod operators;
+
+use logs::{add_frames, add_records};
+use operators::{grouped, joined, sorted};
+use std::fs::{File, OpenOptions};
+use std::process::ExitCode;
+use std::rt::Runtime;
+use std::{env, io};
+use vdb_base::NoMemory;
+
+/// What can be asked for.
+#[derive(Clone, Copy, Debug, PartialEq, Eq)]
+enum Work {
+    Log,
+    Bare,
+    Join,
+    Group,
+    Sort,
+}
+
+fn work_of(word: &str) -> Option<Work> {
+    match word {
+        "log" => Some(Work::Log),
+        "bare" => Some(Work::Bare),
+        "join" => Some(Work::Join),
+        "group" => Some(Work::Group),
+        "sort" => Some(Work::Sort),
+        _ => None,
+    }
+}
+
+/// Why no work was done.
+enum Fault {
+    Words,
+    File,
+    Memory,
+}
+
+impl From<NoMemory> for Fault {
+    fn from(_error: NoMemory) -> Fault {
+        Fault::Memory
+    }
+}
+
+impl From<io::Error> for Fault {
+    fn from(_error: io::Error) -> Fault {
+        Fault::File
+    }
+}
+
+/// The two words.
+fn asked(rt: &(impl Runtime + AllocGlobal)) -> Result<(Work, u32), Fault> {
+    let mut words = env::args(rt)?.skip(1);
+    let (Some(what), Some(count)) = (words.next(), words.next()) else {
+        return Err(Fault::Words);
+    };
+    match (work_of(what.as_str()), count.as_str().parse::<u32>()) {
+        (Some(work), Ok(count)) => Ok((work, count)),
+        _ => Err(Fault::Words),
+    }
+}
+
+/// An empty file of the current folder.
+fn new_file(rt: &HostRuntime) -> io::Result<File> {
+    OpenOptions::new()
+        .read(true)
+        .write(true)
+        .create(true)
+        .truncate(true)
+        .open(rt, "bench_work.log")
+}
+
+/// How many records or rows came of the work.
+fn done(rt: &HostRuntime, work: Work, count: u32) -> Result<usize, Fault> {
+    let alloc = rt.alloc();
+    match work {
+        Work::Log => Ok(add_records(new_file(rt)?, count) as usize),
+        Work::Bare => Ok(add_frames(&new_file(rt)?, count) as usize),
+        Work::Join => Ok(joined(alloc, count)?),
+        Work::Group => Ok(grouped(alloc, count)?),
+        Work::Sort => Ok(sorted(alloc, count)?),
+    }
+}
+
+fn run(rt: &HostRuntime) -> Result<(), Fault> {
+    let (work, count) = asked(rt)?;
+    let made = done(rt, work, count)?;
+    println!(rt; "{made}")?;
+    Ok(())
+}
+
+fn main(rt: HostRuntime) -> ExitCode {
+    match run(&rt) {
+        Ok(()) => ExitCode::SUCCESS,
+        Err(Fault::Words) => ExitCode::from(2),
+        Err(Fault::File) => ExitCode::from(4),
+        Err(Fault::Memory) => ExitCode::from(5),
+    }
+}

@@ -1,0 +1,9 @@
+pub mod Stops
+pub mod Told
+pub mod Records
+pub mod Places
+pub mod Emptied
+pub mod Walks
+pub mod Added
+pub mod Exits
+pub mod Frames

@@ -1,0 +1,9 @@
+pub mod Stops
+pub mod Disk
+pub mod MemDisk
+pub mod Records
+pub mod Log
+pub mod Opening
+pub mod Scanning
+pub mod Walking
+pub mod Appending

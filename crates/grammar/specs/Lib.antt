@@ -1,0 +1,11 @@
+pub mod Table
+pub mod Weights
+pub mod WellFormed
+pub mod Limits
+pub mod Derivation
+pub mod Reading
+pub mod Order
+pub mod Laws
+pub mod Taking
+pub mod Threads
+pub mod Runs

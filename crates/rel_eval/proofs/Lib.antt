@@ -1,0 +1,13 @@
+pub mod Rules
+pub mod Joined
+pub mod Pattern
+pub mod KeepFirst
+pub mod PartByPart
+pub mod LentRows
+pub mod OneOrder
+pub mod Grouped
+pub mod Totals
+pub mod Indexing
+pub mod Forced
+pub mod Matching
+pub mod Conjuncts
