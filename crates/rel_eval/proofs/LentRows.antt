@@ -1,11 +1,11 @@
 -- Lists of rows that are lent.
-use Rattle.std.proofs.Common.{◌≡◌, ◌∙◌, ◌<◌, ◌+◌, ℕ, zero, suc, List, [], ◌∷◌, ◌++◌, refl, ap, map, length, take, drop, min, arith, get_or, subst, IsPermutation, IsSorted, IsSortedBy}
+use Rattle.std.proofs.Common.{◌≡◌, ◌∙◌, ℕ, zero, suc, List, [], ◌∷◌, ◌++◌, refl, ap, map, length, take, drop, min, arith, subst, IsPermutation, IsSorted, IsSortedBy}
 use Rattle.std.specs.declared.cmp.Ordering.{Ordering}
 use Rattle.std.specs.Ordering.{is_lt}
-use Rattle.std.proofs.lemmas.List.Sorted.{IsPermutation-map}
 use denote.Ref.{Bor}
 use Rattle.vdb_model.specs.Rows.{Cells}
 use Rattle.rel_eval.specs.Lent.{lent}
+use Rattle.rel_eval.proofs.ShownRows.{shown_same, shown_sorted}
 
 pub lent_is_map : (rows : List (Bor Cells)) → map (λ row. row.now) rows ≡ lent rows
 lent_is_map [] = refl
@@ -32,23 +32,14 @@ pub lent_push : (rows : List (Bor Cells)) (row : Bor Cells) → lent (rows ++ ro
 lent_push [] row = refl
 lent_push (r ∷ rows) row = ap (λ z. r.now ∷ z) (lent_push rows row)
 
-lent_at : (rows : List (Bor Cells)) (k : ℕ) (d : Cells) (e : Bor Cells) → k < length rows → get_or (lent rows) k d ≡ (get_or rows k e).now
-lent_at [] k d e h = absurd (omega (arith, h))
-lent_at (row ∷ rows) zero d e h = refl
-lent_at (row ∷ rows) (suc k) d e h = lent_at rows k d e (omega (arith, h))
-
 pub lent_length : (rows : List (Bor Cells)) → length (lent rows) ≡ length rows
 lent_length [] = refl
 lent_length (row ∷ rows) = ap suc (lent_length rows)
 
 pub lent_same : (rows : List Cells) (before after : List (Bor Cells)) → lent before ≡ rows → IsPermutation before after → IsPermutation rows (lent after)
-lent_same rows before after e h =
-    subst (λ z. IsPermutation z (lent after)) (lent_is_map before ∙ e) (subst (IsPermutation (map (λ (row : Bor Cells). row.now) before)) (lent_is_map after) (IsPermutation-map (λ (row : Bor Cells). row.now) before after h))
+lent_same rows before after e h = subst (IsPermutation rows) (lent_is_map after) (shown_same (λ (row : Bor Cells). row.now) rows before after (lent_is_map before ∙ e) h)
 
 pub lent_sorted : (R : Cells → Cells → Ordering) (rows : List (Bor Cells)) → IsSortedBy (λ (a b : Bor Cells). is_lt (R a.now b.now)) rows → IsSorted R (lent rows)
-lent_sorted R [] h k d low high = absurd (omega (arith, high))
-lent_sorted R (row ∷ rows) h k d low high =
-    let within : k + 1 < length (row ∷ rows) = subst (λ n. k + 1 < n) (lent_length (row ∷ rows)) high in
-    rw (lent_at (row ∷ rows) (k + 1) d row within, lent_at (row ∷ rows) k d row (omega (arith, within))) (h k row low within)
+lent_sorted R rows h = subst (IsSorted R) (lent_is_map rows) (shown_sorted (λ (row : Bor Cells). row.now) R rows h)
 
 pub ruleset lent_rules = (drop_at_most, take_at_most)

@@ -3,7 +3,9 @@ pub mod Joined
 pub mod Pattern
 pub mod KeepFirst
 pub mod PartByPart
+pub mod ShownRows
 pub mod LentRows
+pub mod RanksOfRows
 pub mod OneOrder
 pub mod Grouped
 pub mod Totals

@@ -6,3 +6,5 @@ pub mod Pieces
 pub mod Sides
 pub mod Sums
 pub mod Unions
+pub mod Ranks
+pub mod RankedRows

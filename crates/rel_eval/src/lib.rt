@@ -15,6 +15,7 @@ mod logic;
 mod number;
 mod ordering;
 mod patterns;
+mod ranking;
 mod rows;
 mod sum;
 mod value;

@@ -1,13 +1,15 @@
 //! Rows in order.
 
-ghost use Rattle.std.specs.Prelude.{◌≡◌, IfOk, drop, take, min, IsPermutation, IsSorted};
+ghost use Rattle.std.specs.Prelude.{◌≡◌, ◌∷◌, IfOk, drop, take, min, IsPermutation, IsSorted};
 ghost use Rattle.vdb_base.specs.Order.{value_cmp};
 ghost use Rattle.vdb_model.specs.Arranged.{Arranged, arranged, in_order, window};
 ghost use Rattle.vdb_model.specs.Keys.{key_cmp, keys_cmp, total_cmp};
 ghost use Rattle.vdb_model.specs.Meaning.{cell};
 ghost use Rattle.rel_eval.specs.Lent.{lent};
+ghost use Rattle.rel_eval.specs.RankedRows.{rows_in};
 
 use crate::lend::lend;
+use crate::ranking::Ranked;
 use std::alloc::Global;
 use std::cmp::Ordering;
 use vdb_base::{NoMemory, Row, Rows, Seq, Value, cmp_rows, cmp_values};
@@ -111,13 +113,63 @@ fn copy_window(
     }
 }
 
+/// The rows with their ranks.
+fn with_ranks(alloc: Global, rows: &Rows, key: Key) -> Result<Vec<Ranked<'_>>, NoMemory>
+    ensures { IfOk result (λ made. rows_in made.items ≡ rows.now) }
+{
+    let mut made = Vec::with_capacity(alloc, rows.len())?;
+    for row in rows.as_slice() {
+        made.push(Ranked::of(row, key))?;
+    }
+    Ok(made)
+}
+
+/// The rows without their ranks.
+fn without_ranks<'a>(alloc: Global, ranked: &[Ranked<'a>]) -> Result<Vec<&'a Row>, NoMemory>
+    ensures { IfOk result (λ made. lent made.items ≡ rows_in ranked.now) }
+{
+    let mut made = Vec::with_capacity(alloc, ranked.len())?;
+    for one in ranked {
+        made.push(one.row)?;
+    }
+    Ok(made)
+}
+
+/// By the first key and the others in turn.
+fn cmp_ranked(key: Key, others: &[Key], a: &Ranked<'_>, b: &Ranked<'_>) -> Ordering
+    ensures { result ≡ keys_cmp (key ∷ others.now) a.now.row.now b.now.row.now }
+{
+    if let Some(order) = a.by_rank(b, key) {
+        return order;
+    }
+    match cmp_by_key(key, a.row, b.row) {
+        Ordering::Equal => cmp_by_keys(others, a.row, b.row),
+        order => order,
+    }
+}
+
+fn by_ranks<'a>(
+    alloc: Global,
+    rows: &'a Rows,
+    key: Key,
+    others: &[Key],
+) -> Result<Vec<&'a Row>, NoMemory>
+    ensures same { IfOk result (λ made. IsPermutation rows.now (lent made.items)) }
+    ensures sorted { IfOk result (λ made. IsSorted (keys_cmp (key ∷ others.now)) (lent made.items)) }
+{
+    let mut sorted = with_ranks(alloc, rows, key)?;
+    sorted.sort_by(|a, b| cmp_ranked(key, others, a, b))?;
+    Ok(without_ranks(alloc, &sorted)?)
+}
+
 fn by_keys<'a>(alloc: Global, rows: &'a Rows, keys: &[Key]) -> Result<Vec<&'a Row>, NoMemory>
     ensures same { IfOk result (λ made. IsPermutation rows.now (lent made.items)) }
     ensures sorted { IfOk result (λ made. IsSorted (keys_cmp keys.now) (lent made.items)) }
 {
-    let mut sorted = lend(alloc, rows)?;
-    sorted.sort_by(|a, b| cmp_by_keys(keys, a, b))?;
-    Ok(sorted)
+    match keys {
+        [] => lend(alloc, rows),
+        [key, others @ ..] => by_ranks(alloc, rows, *key, others),
+    }
 }
 
 /// The rows in the order of the keys, in which ties are free: those behind the first `offset`, at most `limit` of them.
