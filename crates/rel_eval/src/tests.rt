@@ -1,4 +1,5 @@
-//! What no clause says: that each call succeeds where there is memory, on a shop's customers and orders.
+//! What no clause says: that each call succeeds where there is memory. Here are the operators on a shop's customers and
+//! orders; the modules have expressions by their kinds, aggregates, joins and orders.
 
 ghost use Rattle.std.specs.Prelude.{◌<◌};
 
@@ -8,6 +9,14 @@ use std::alloc::Global;
 use std::test::Fail;
 use vdb_base::{NoMemory, Nums, Row, Rows, Seq, Text, Value, print_value};
 use vdb_model::{Agg, Aggs, CmpOp, Expr, Exprs, JoinKind, Key, Keys};
+
+mod aggregates;
+mod arithmetic;
+mod arrangements;
+mod choices;
+mod joins;
+mod texts;
+mod truths;
 
 fn value_of(n: i128) -> Value {
     if n < 0 { Value::Null } else { Value::Num(n) }
@@ -29,6 +38,82 @@ fn rows_of(alloc: Global, numbers: &[i128], width: usize) -> Result<Rows, NoMemo
         rows.push(row_of(alloc, row)?)?;
     }
     Ok(rows)
+}
+
+fn maybe_truth(t: Option<bool>) -> Value {
+    match t {
+        Some(t) => Value::Bool(t),
+        None => Value::Null,
+    }
+}
+
+fn maybe_number(n: Option<i128>) -> Value {
+    match n {
+        Some(n) => Value::Num(n),
+        None => Value::Null,
+    }
+}
+
+fn word(alloc: Global, text: &str) -> Result<Value, NoMemory> {
+    Ok(Value::Str(Text::from_str(alloc, text)?))
+}
+
+fn maybe_word(alloc: Global, text: Option<&str>) -> Result<Value, NoMemory> {
+    match text {
+        Some(text) => word(alloc, text),
+        None => Ok(Value::Null),
+    }
+}
+
+fn letters(alloc: Global) -> Result<Rows, NoMemory> {
+    let mut rows = Seq::new(alloc);
+    for text in ["b", "é", "a"] {
+        let mut row = Seq::new(alloc);
+        row.push(word(alloc, text)?)?;
+        rows.push(row)?;
+    }
+    Ok(rows)
+}
+
+fn boxed(alloc: Global, v: Value) -> Result<Boxed<Expr>, NoMemory> {
+    Ok(Boxed::new(alloc, Expr::Const(v))?)
+}
+
+fn two(alloc: Global, a: Value, b: Value) -> Result<Exprs, NoMemory> {
+    let mut made = Vec::new(alloc);
+    made.push(Expr::Const(a))?;
+    made.push(Expr::Const(b))?;
+    Ok(Items::from_vec(made))
+}
+
+fn three(alloc: Global, a: Value, b: Value, c: Value) -> Result<Exprs, NoMemory> {
+    let mut made = Vec::new(alloc);
+    made.push(Expr::Const(a))?;
+    made.push(Expr::Const(b))?;
+    made.push(Expr::Const(c))?;
+    Ok(Items::from_vec(made))
+}
+
+fn compare(alloc: Global, op: CmpOp, a: Value, b: Value) -> Result<Expr, NoMemory> {
+    cmp(alloc, op, Expr::Const(a), Expr::Const(b))
+}
+
+/// The value of an expression over no columns and no variables.
+fn given(alloc: Global, e: Expr) -> Result<Value, NoMemory> {
+    let none: Row = Seq::new(alloc);
+    eval(alloc, &e, &none, &none)
+}
+
+fn gives(alloc: Global, e: Expr, want: Value) -> Result<bool, NoMemory> {
+    Ok(given(alloc, e)? == want)
+}
+
+fn gives_word(alloc: Global, e: Expr, want: Option<&str>) -> Result<bool, NoMemory> {
+    match (given(alloc, e)?, want) {
+        (Value::Str(text), Some(want)) => Ok(text.as_str() == want),
+        (Value::Null, None) => Ok(true),
+        _ => Ok(false),
+    }
 }
 
 fn customers(alloc: Global) -> Result<Rows, NoMemory> {
