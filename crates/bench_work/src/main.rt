@@ -2,14 +2,17 @@
 //!
 //! `bench_work WHAT HOW_MUCH` does one piece of work and prints what came of it: `log` and `bare` add records to a file
 //! in the current folder, by the log and by the same calls without it; `join`, `group` and `sort` run one relational
-//! operator over rows that it makes. The scripts time it. It promises nothing but that it is safe and ends.
+//! operator over rows that it makes; `statement` and `script` read texts that it makes. The scripts time it. It promises
+//! nothing but that it is safe and ends.
 #![tactic(auto)]
 
 mod logs;
 mod operators;
+mod readers;
 
 use logs::{add_frames, add_records};
 use operators::{grouped, joined, sorted};
+use readers::{read_long, read_script};
 use std::fs::{File, OpenOptions};
 use std::process::ExitCode;
 use std::rt::Runtime;
@@ -24,6 +27,8 @@ enum Work {
     Join,
     Group,
     Sort,
+    Statement,
+    Script,
 }
 
 fn work_of(word: &str) -> Option<Work> {
@@ -33,6 +38,8 @@ fn work_of(word: &str) -> Option<Work> {
         "join" => Some(Work::Join),
         "group" => Some(Work::Group),
         "sort" => Some(Work::Sort),
+        "statement" => Some(Work::Statement),
+        "script" => Some(Work::Script),
         _ => None,
     }
 }
@@ -87,6 +94,8 @@ fn done(rt: &HostRuntime, work: Work, count: u32) -> Result<usize, Fault> {
         Work::Join => Ok(joined(alloc, count)?),
         Work::Group => Ok(grouped(alloc, count)?),
         Work::Sort => Ok(sorted(alloc, count)?),
+        Work::Statement => Ok(read_long(alloc, count)?),
+        Work::Script => Ok(read_script(alloc, count)?),
     }
 }
 

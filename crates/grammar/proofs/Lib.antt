@@ -5,3 +5,5 @@ pub mod Adding
 pub mod Steps
 pub mod Logs
 pub mod Runs
+pub mod Moves
+pub mod Predictive

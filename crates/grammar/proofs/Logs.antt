@@ -64,7 +64,7 @@ up_first x y xs ys h = or_left _ _ (to_before x y h)
 up_rest : (x y : Event) (xs ys : List Event) → x ≡ y → is_up_to xs ys ≡ true → is_up_to (x ∷ xs) (y ∷ ys) ≡ true
 up_rest x y xs ys e h = or_right (is_before x y) _ (and_from _ _ (subst (λ (z : Event). is_same x z ≡ true) e (is_itself x)) h)
 
-up_itself : (xs : List Event) → is_up_to xs xs ≡ true
+pub up_itself : (xs : List Event) → is_up_to xs xs ≡ true
 up_itself [] = refl
 up_itself (x ∷ xs) = up_rest x x xs xs refl (up_itself xs)
 

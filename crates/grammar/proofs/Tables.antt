@@ -12,6 +12,7 @@ use Rattle.grammar.specs.declared.machine.Event.{Event}
 use Rattle.grammar.specs.Table.{Rules, Shape, Token, Action, Unless, Choice, rule_of, shape_of, shapes}
 use Rattle.grammar.specs.Derivation.{has, Among, here, there, Derives, done, await, act, free, choose}
 use Rattle.grammar.specs.Limits.{child, children}
+use Rattle.grammar.proofs.Elements.{each_passes}
 use Rattle.grammar.specs.WellFormed.{cause_of, is_right, all_right, is_well_formed}
 use Rattle.grammar.specs.Weights.{weight_of, is_solid, rank_of, opening, has_solid, ranks_below, all_light, all_solid, any_below}
 
@@ -49,16 +50,6 @@ tested_of g weight true rank ps true true true e f k h = record { light = sym e;
 tested : (g : Rules) (n weight : ℕ) (solid : Bool) (rank : ℕ) (ps : List (List Item)) → is_well_formed g ≡ true → rule_of g n ≡ Choice weight solid rank ps → Tested g weight solid rank ps
 tested g n weight solid rank ps ok e = tested_of g weight solid rank ps _ _ _ refl refl refl (rw e at (rule_is_right g g n ok))
 
-light_at : (g : Rules) (weight : ℕ) (p : List Item) (ps : List (List Item)) → Among p ps → all_light g weight ps ≡ true → nat_lt (opening g p) weight ≡ true
-light_at g weight p [] m h = elim m [ ]
-light_at g weight p (q ∷ ps) here h = and_left _ _ h
-light_at g weight p (q ∷ ps) (there m) h = light_at g weight p ps m (and_right (nat_lt (opening g q) weight) (all_light g weight ps) h)
-
-solid_at : (g : Rules) (p : List Item) (ps : List (List Item)) → Among p ps → all_solid g ps ≡ true → has_solid g p ≡ true
-solid_at g p [] m h = elim m [ ]
-solid_at g p (q ∷ ps) here h = and_left _ _ h
-solid_at g p (q ∷ ps) (there m) h = solid_at g p ps m (and_right (has_solid g q) (all_solid g ps) h)
-
 -- how much a stack opens before the next token is read
 abbrev pub cost : Rules → List Symbol → ℕ
 cost g [] = 0
@@ -83,11 +74,11 @@ cost_solid g s (i ∷ is) ss h = weigh_solid (weight_of (rule_of g i.symbol)) (c
 choice_falls : (g : Rules) (weight : ℕ) (solid : Bool) (rank : ℕ) (ps : List (List Item)) (p : List Item) (s : Symbol) (ss : List Symbol)
     → Among p ps → Tested g weight solid rank ps → cost g (children s p ++ ss) < weight + cond solid 0 (cost g ss)
 choice_falls g weight true rank ps p s ss m t =
-    let below : opening g p < weight = ltb-true _ _ (light_at g weight p ps m t.light) in
-    let here : cost g (children s p ++ ss) ≤ opening g p = cost_solid g s p ss (solid_at g p ps m (t.solids refl)) in
+    let below : opening g p < weight = ltb-true _ _ (each_passes (λ q. nat_lt (opening g q) weight) p ps m t.light) in
+    let here : cost g (children s p ++ ss) ≤ opening g p = cost_solid g s p ss (each_passes (has_solid g) p ps m (t.solids refl)) in
     omega arith
 choice_falls g weight false rank ps p s ss m t =
-    let below : opening g p < weight = ltb-true _ _ (light_at g weight p ps m t.light) in
+    let below : opening g p < weight = ltb-true _ _ (each_passes (λ q. nat_lt (opening g q) weight) p ps m t.light) in
     let here : cost g (children s p ++ ss) ≤ opening g p + cost g ss = cost_children g s p ss in
     omega arith
 
@@ -165,3 +156,7 @@ length_shapes (r ∷ rules) = ap suc (length_shapes rules)
 
 pub right_all : (rules : List Rule) (i : ℕ) → length rules ≤ i → all_right (shapes rules) (take i (shapes rules)) ≡ true → is_well_formed (shapes rules) ≡ true
 right_all rules i h a = subst (λ (rs : Rules). all_right (shapes rules) rs ≡ true) (take_all i (shapes rules) (rw (length_shapes rules) h)) a
+
+pub shapes_join : (xs ys : List Rule) → shapes (xs ++ ys) ≡ shapes xs ++ shapes ys
+shapes_join [] ys = refl
+shapes_join (x ∷ xs) ys = ap (λ (rs : Rules). shape_of x ∷ rs) (shapes_join xs ys)

@@ -5,6 +5,7 @@ pub mod Limits
 pub mod Derivation
 pub mod Reading
 pub mod Order
+pub mod Predictive
 pub mod Laws
 pub mod Taking
 pub mod Threads

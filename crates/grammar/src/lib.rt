@@ -16,6 +16,10 @@
 //!   list counted by `First` and `Next`, and among the first 65,536 tokens. They bind the tokens that were seen and not
 //!   those that may follow, so the token past a limit is the one that is refused.
 //!
+//! More is promised of a table that is predictive, where the next token, or the text's end, tells which alternative to take:
+//! all derivations of a text have one log (`laws::one_derivation`). `specs/Predictive` has the test, which is computed when
+//! the code is proved, from the first and follow sets that the table's author gives.
+//!
 //! A guard, `Unless(kinds)`, chooses between derivations: after `ELSE statement | Unless(ELSE)` the nearest IF has the
 //! ELSE, and after `MINUS (numeral | Unless(NUMERAL) operand)` a numeral directly after the sign is part of a literal.
 //! Such guards take no text away, since what a guard stops has another derivation with the same tokens; that is by the

@@ -15,3 +15,11 @@ pub mod Complete
 pub mod SelectReads
 pub mod TextParts
 pub mod SaidText
+pub mod Singles
+pub mod Signatures
+pub mod Waits
+pub mod Moves
+pub mod Built
+pub mod Known
+pub mod FirstFollow
+pub mod OneLog

@@ -13,3 +13,16 @@ pub mod Select
 pub mod Reading
 pub mod NextNames
 pub mod Parse
+pub mod Symbols
+pub mod SoftWords
+pub mod Table
+pub mod Kinds
+pub mod Waiting
+pub mod Source
+pub mod Actions
+pub mod BuildTokens
+pub mod BuildExprs
+pub mod BuildQueries
+pub mod BuildStatements
+pub mod Build
+pub mod Trees

@@ -3,6 +3,8 @@
 ghost use Rattle.sql_reader.specs.Laws as law;
 ghost use Rattle.sql_reader.specs.Said as said;
 ghost use Rattle.sql_reader.specs.Select as query;
+ghost use Rattle.sql_reader.specs.Symbols as symbol;
+ghost use Rattle.sql_reader.specs.Trees as tree;
 
 /// A statement that is found in a script's first bytes stays found when more come.
 #[tactic(auto, using(crate::proofs::Stays::found_stays))]
@@ -53,4 +55,20 @@ pub fn one_reading()
 #[tactic(auto, using(crate::proofs::SaidText::tokens_say_text))]
 pub fn tokens_say_text()
     ensures { said.TokensSayText }
+{}
+
+/// Every statement of the grammar builds one tree: no action lacks a part, and no part is left.
+pub fn one_statement_built()
+    ensures { tree.OneStatementBuilt }
+{}
+
+/// Every query without an order builds one tree.
+pub fn one_query_built()
+    ensures { tree.OneQueryBuilt }
+{}
+
+/// A statement has one derivation, and so has a query without an order: no tree is chosen among several.
+pub fn one_log()
+    ensures statements { tree.OneLog symbol.STATEMENT_RULE }
+    ensures queries { tree.OneLog symbol.SET_ONLY_RULE }
 {}

@@ -29,7 +29,7 @@ pub fn bytes_of<'a>(text: &'a [u8], token: Token) -> &'a [u8]
 }
 
 /// What stands between the quotes.
-fn inner(bytes: &[u8]) -> &[u8]
+pub(crate) fn inner(bytes: &[u8]) -> &[u8]
     ensures { result.now ≡ spec.inner bytes.now }
 {
     let rest = after(bytes, 1);
@@ -52,7 +52,7 @@ pub fn is_keyword(word: &[u8], kind: Kind, bytes: &[u8]) -> bool
 
 /// The text that bytes are, if they are one.
 #[tactic(auto, using(crate::proofs::Utf8::tests))]
-fn text_of(bytes: Vec<u8>) -> Option<Text>
+pub(crate) fn text_of(bytes: Vec<u8>) -> Option<Text>
     ensures { result ≡ spec.text_of bytes.items }
 {
     match String::from_utf8(bytes) {

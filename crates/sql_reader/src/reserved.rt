@@ -85,7 +85,7 @@ pub fn is_same(word: &[u8], low: &[u8]) -> bool
 }
 
 /// The place of a word in a list of words in lower case.
-fn place_of(word: &[u8], lows: &[&[u8]]) -> Option<usize>
+pub(crate) fn place_of(word: &[u8], lows: &[&[u8]]) -> Option<usize>
     ensures place { result ≡ spec.place_of word.now (spec.shown lows.now) }
     ensures within { IfSome result (λ i. i < length lows.now) }
 {

@@ -21,3 +21,7 @@ pub mod NameText
 pub mod RefusalText
 pub mod ReplyText
 pub mod FaultText
+pub mod Sizes
+pub mod Closed
+pub mod Expanded
+pub mod Stacked

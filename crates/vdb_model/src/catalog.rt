@@ -138,6 +138,13 @@ impl Catalog {
         }
     }
 
+    /// The same catalog with these views.
+    pub fn with_views(self, views: ViewDefs) -> Catalog
+        ensures { result ≡ record self { views = views } }
+    {
+        Catalog { views, ..self }
+    }
+
     pub fn servers(&self) -> &ServerDefs
         ensures { result.now ≡ self.now.servers }
     {

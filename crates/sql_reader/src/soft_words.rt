@@ -1,0 +1,33 @@
+//! Words that the grammars know and that may stand as names. It is written by `tools/table.py`.
+
+/// In lower case, by their kinds from the first one.
+pub(crate) static SOFT_WORDS: [&[u8]; 28] = [
+    b"transaction",
+    b"atomic",
+    b"sqlexception",
+    b"accesspattern",
+    b"constraint",
+    b"data",
+    b"database",
+    b"each",
+    b"for",
+    b"foreign",
+    b"instead",
+    b"key",
+    b"of",
+    b"options",
+    b"primary",
+    b"procedure",
+    b"returns",
+    b"row",
+    b"schema",
+    b"server",
+    b"table",
+    b"trigger",
+    b"type",
+    b"use",
+    b"version",
+    b"view",
+    b"virtual",
+    b"wrapper",
+];

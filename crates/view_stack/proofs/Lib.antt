@@ -1,0 +1,11 @@
+pub mod SizeByKinds
+pub mod NamedByKinds
+pub mod ClosedByKinds
+pub mod UnreadByKinds
+pub mod TreeByKinds
+pub mod NoVariables
+pub mod Kept
+pub mod Stack
+pub mod ViewAt
+pub mod Falls
+pub mod Rules
