@@ -2,7 +2,7 @@
 //!
 //! `bench_work WHAT HOW_MUCH` does one piece of work and prints what came of it: `log` and `bare` add records to a file
 //! in the current folder, by the log and by the same calls without it; `join`, `group` and `sort` run one relational
-//! operator over rows that it makes; `statement` and `script` read texts that it makes. The scripts time it. It promises
+//! operator over rows that it makes; `statement`, `script` and `ddl` read texts that it makes. The scripts time it. It promises
 //! nothing but that it is safe and ends.
 #![tactic(auto)]
 
@@ -12,7 +12,7 @@ mod readers;
 
 use logs::{add_frames, add_records};
 use operators::{grouped, joined, sorted};
-use readers::{read_long, read_script};
+use readers::{read_definitions, read_long, read_script};
 use std::fs::{File, OpenOptions};
 use std::process::ExitCode;
 use std::rt::Runtime;
@@ -29,6 +29,7 @@ enum Work {
     Sort,
     Statement,
     Script,
+    Ddl,
 }
 
 fn work_of(word: &str) -> Option<Work> {
@@ -40,6 +41,7 @@ fn work_of(word: &str) -> Option<Work> {
         "sort" => Some(Work::Sort),
         "statement" => Some(Work::Statement),
         "script" => Some(Work::Script),
+        "ddl" => Some(Work::Ddl),
         _ => None,
     }
 }
@@ -96,6 +98,7 @@ fn done(rt: &HostRuntime, work: Work, count: u32) -> Result<usize, Fault> {
         Work::Sort => Ok(sorted(alloc, count)?),
         Work::Statement => Ok(read_long(alloc, count)?),
         Work::Script => Ok(read_script(alloc, count)?),
+        Work::Ddl => Ok(read_definitions(alloc, count)?),
     }
 }
 

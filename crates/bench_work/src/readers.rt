@@ -4,6 +4,7 @@ use sql_reader::read::{ReadFault, read_statement};
 use sql_reader::{Found, next_statement};
 use std::alloc::Global;
 use vdb_base::NoMemory;
+use vdb_ddl::read_ddl;
 
 /// The first text, and then the second so many times.
 fn repeated(alloc: Global, front: &[u8], part: &[u8], count: u32) -> Result<Vec<u8>, NoMemory> {
@@ -54,4 +55,19 @@ pub fn read_script(alloc: Global, count: u32) -> Result<usize, NoMemory> {
         from = next;
     }
     Ok(read)
+}
+
+/// Reads a DDL text of so many items of 14 tokens: how many it has.
+pub fn read_definitions(alloc: Global, count: u32) -> Result<usize, NoMemory> {
+    let text = repeated(
+        alloc,
+        b"",
+        b"CREATE FOREIGN TABLE t (id integer NOT NULL, name string);",
+        count,
+    )?;
+    match read_ddl(alloc, text.as_slice()) {
+        Ok(items) => Ok(items.len()),
+        Err(ReadFault::Syntax { .. }) => Ok(0),
+        Err(ReadFault::Memory) => Err(NoMemory),
+    }
 }

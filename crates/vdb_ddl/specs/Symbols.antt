@@ -1,0 +1,168 @@
+-- The numbers of the grammar of items, behind those of statements. It is written by `tools/table.py`.
+use Rattle.std.specs.Prelude.{ℕ}
+
+-- the number of the first action of items
+abbrev pub FIRST_DDL_ACTION : ℕ
+FIRST_DDL_ACTION = 768
+
+abbrev pub CONSTRAINT : ℕ
+CONSTRAINT = 167
+
+abbrev pub DATA : ℕ
+DATA = 168
+
+abbrev pub DATABASE : ℕ
+DATABASE = 169
+
+abbrev pub FOREIGN : ℕ
+FOREIGN = 170
+
+abbrev pub KEY : ℕ
+KEY = 171
+
+abbrev pub OPTIONS : ℕ
+OPTIONS = 172
+
+abbrev pub PRIMARY : ℕ
+PRIMARY = 173
+
+abbrev pub SCHEMA : ℕ
+SCHEMA = 174
+
+abbrev pub SERVER : ℕ
+SERVER = 175
+
+abbrev pub TABLE : ℕ
+TABLE = 176
+
+abbrev pub TYPE : ℕ
+TYPE = 177
+
+abbrev pub USE : ℕ
+USE = 178
+
+abbrev pub VERSION : ℕ
+VERSION = 179
+
+abbrev pub VIEW : ℕ
+VIEW = 180
+
+abbrev pub VIRTUAL : ℕ
+VIRTUAL = 181
+
+abbrev pub WRAPPER : ℕ
+WRAPPER = 182
+
+abbrev pub LITERAL : ℕ
+LITERAL = 183
+
+abbrev pub DDL_ITEM_RULE : ℕ
+DDL_ITEM_RULE = 184
+
+abbrev pub CREATED_RULE : ℕ
+CREATED_RULE = 185
+
+abbrev pub VERSION_PART_RULE : ℕ
+VERSION_PART_RULE = 186
+
+abbrev pub TYPE_PART_RULE : ℕ
+TYPE_PART_RULE = 187
+
+abbrev pub TABLE_PARTS_REST_RULE : ℕ
+TABLE_PARTS_REST_RULE = 188
+
+abbrev pub TABLE_PART_RULE : ℕ
+TABLE_PART_RULE = 189
+
+abbrev pub NULL_PART_RULE : ℕ
+NULL_PART_RULE = 190
+
+abbrev pub PRIMARY_KEY_RULE : ℕ
+PRIMARY_KEY_RULE = 191
+
+abbrev pub VIEW_END_RULE : ℕ
+VIEW_END_RULE = 192
+
+abbrev pub VIEW_COLUMNS_REST_RULE : ℕ
+VIEW_COLUMNS_REST_RULE = 193
+
+abbrev pub VIEW_COLUMN_RULE : ℕ
+VIEW_COLUMN_RULE = 194
+
+abbrev pub VIEW_COLUMN_END_RULE : ℕ
+VIEW_COLUMN_END_RULE = 195
+
+abbrev pub TYPE_RULE : ℕ
+TYPE_RULE = 196
+
+abbrev pub TYPE_END_RULE : ℕ
+TYPE_END_RULE = 197
+
+abbrev pub NUMERALS_REST_RULE : ℕ
+NUMERALS_REST_RULE = 198
+
+abbrev pub OPTIONS_PART_RULE : ℕ
+OPTIONS_PART_RULE = 199
+
+abbrev pub OPTIONS_END_RULE : ℕ
+OPTIONS_END_RULE = 200
+
+abbrev pub SETTING_RULE : ℕ
+SETTING_RULE = 201
+
+abbrev pub SETTINGS_REST_RULE : ℕ
+SETTINGS_REST_RULE = 202
+
+abbrev pub USE_DATABASE_ACTION : ℕ
+USE_DATABASE_ACTION = 768
+
+abbrev pub SET_SCHEMA_ACTION : ℕ
+SET_SCHEMA_ACTION = 769
+
+abbrev pub CREATE_DATABASE_ACTION : ℕ
+CREATE_DATABASE_ACTION = 770
+
+abbrev pub CREATE_SERVER_ACTION : ℕ
+CREATE_SERVER_ACTION = 771
+
+abbrev pub CREATE_SCHEMA_ACTION : ℕ
+CREATE_SCHEMA_ACTION = 772
+
+abbrev pub CREATE_VIRTUAL_SCHEMA_ACTION : ℕ
+CREATE_VIRTUAL_SCHEMA_ACTION = 773
+
+abbrev pub TABLE_PARTS_ACTION : ℕ
+TABLE_PARTS_ACTION = 774
+
+abbrev pub CREATE_TABLE_ACTION : ℕ
+CREATE_TABLE_ACTION = 775
+
+abbrev pub REQUIRED_COLUMN_ACTION : ℕ
+REQUIRED_COLUMN_ACTION = 776
+
+abbrev pub COLUMN_ACTION : ℕ
+COLUMN_ACTION = 777
+
+abbrev pub PRIMARY_KEY_ACTION : ℕ
+PRIMARY_KEY_ACTION = 778
+
+abbrev pub VIEW_COLUMNS_ACTION : ℕ
+VIEW_COLUMNS_ACTION = 779
+
+abbrev pub CREATE_VIEW_COLUMNS_ACTION : ℕ
+CREATE_VIEW_COLUMNS_ACTION = 780
+
+abbrev pub CREATE_VIEW_ACTION : ℕ
+CREATE_VIEW_ACTION = 781
+
+abbrev pub TYPED_COLUMN_ACTION : ℕ
+TYPED_COLUMN_ACTION = 782
+
+abbrev pub UNTYPED_COLUMN_ACTION : ℕ
+UNTYPED_COLUMN_ACTION = 783
+
+abbrev pub OPTIONS_ACTION : ℕ
+OPTIONS_ACTION = 784
+
+abbrev pub SETTING_ACTION : ℕ
+SETTING_ACTION = 785
