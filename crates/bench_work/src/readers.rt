@@ -1,7 +1,7 @@
 //! Texts that are read.
 
 use sql_reader::read::{ReadFault, read_statement};
-use sql_reader::{Found, next_statement};
+use sql_tokens::{Found, next_statement};
 use std::alloc::Global;
 use vdb_base::NoMemory;
 use vdb_ddl::read_ddl;

@@ -7,3 +7,7 @@ pub mod Logs
 pub mod Runs
 pub mod Moves
 pub mod Predictive
+pub mod Quiet
+pub mod Behind
+pub mod Stages
+pub mod Tested

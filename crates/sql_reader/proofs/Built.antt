@@ -5,14 +5,14 @@ use Rattle.std.proofs.lemmas.List.{reverse-append}
 use Rattle.grammar.specs.Reading.{IsSentence, IsReading, IsFront}
 use Rattle.grammar.specs.declared.reader.Front.{Front}
 use Rattle.grammar.specs.declared.machine.Event.{Event}
-use Rattle.sql_reader.specs.declared.token.Token.{Token}
+use Rattle.sql_tokens.specs.declared.token.Token.{Token}
 use Rattle.sql_reader.specs.declared.tree.query.Query.{Query}
 use Rattle.sql_reader.specs.declared.tree.statement.Statement.{Statement}
 use Rattle.sql_reader.specs.Build.{build}
 use Rattle.sql_reader.specs.Source.{Source}
 use Rattle.sql_reader.specs.Symbols.{STATEMENT_RULE, SET_ONLY_RULE}
 use Rattle.sql_reader.specs.Table.{table}
-use Rattle.sql_reader.specs.Tokens.{tokens_from}
+use Rattle.sql_tokens.specs.Tokens.{tokens_from}
 use Rattle.sql_reader.specs.Trees.{Builds, IsFrontOf, IsFrontSet, IsStatement, OneStatementBuilt, OneQueryBuilt, kinds, part_of}
 use Rattle.sql_reader.specs.Waiting.{Waiting, none}
 use Rattle.grammar.proofs.Moves.{end, next}

@@ -10,7 +10,7 @@ use Rattle.sql_reader.specs.Symbols.{SET_ONLY_RULE}
 use Rattle.sql_reader.specs.Table.{table, tokens, queries, statements, expressions}
 use Rattle.sql_reader.specs.Kinds.{kinds_of}
 use Rattle.sql_reader.specs.Trees.{IsFaultAt, IsNoFrontOf, kinds, part_of, place_of}
-use Rattle.sql_reader.specs.declared.token.Token.{Token}
+use Rattle.sql_tokens.specs.declared.token.Token.{Token}
 
 table_known : is_well_formed table ≡ true
 table_known = refl

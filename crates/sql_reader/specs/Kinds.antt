@@ -1,12 +1,12 @@
 -- The kinds that tokens have in the grammar. A token that stands nowhere, and so makes its text no statement, is a bad one or
 -- a name of another length than 1 to 64 bytes.
 use Rattle.std.specs.Prelude.{ℕ, Bool, false, ◌+◌, ◌&&◌, nat_le, if◌then◌else◌, List, [], ◌∷◌, Option, Some, None, length}
-use Rattle.sql_reader.specs.declared.token.Kind.{Kind}
-use Rattle.sql_reader.specs.declared.token.Kind.TheVariants as kind
-use Rattle.sql_reader.specs.declared.token.Token.{Token}
-use Rattle.sql_reader.specs.Parts.{bytes_of, inner}
-use Rattle.sql_reader.specs.Values.{single}
-use Rattle.sql_reader.specs.Words.{reserved}
+use Rattle.sql_tokens.specs.declared.token.Kind.{Kind}
+use Rattle.sql_tokens.specs.declared.token.Kind.TheVariants as kind
+use Rattle.sql_tokens.specs.declared.token.Token.{Token}
+use Rattle.sql_tokens.specs.Parts.{bytes_of, inner}
+use Rattle.sql_tokens.specs.Values.{single}
+use Rattle.sql_tokens.specs.Words.{reserved}
 use Rattle.sql_reader.specs.SoftWords.{soft}
 use Rattle.sql_reader.specs.Symbols as symbol
 

@@ -1,6 +1,6 @@
 -- Words that the grammars know and that may stand as names. It is written by `tools/table.py`.
 use Rattle.std.specs.Prelude.{ℕ, List, [], ◌∷◌, Option, codes}
-use Rattle.sql_reader.specs.Words.{place_of}
+use Rattle.sql_tokens.specs.Words.{place_of}
 
 -- in lower case, by their kinds from the first one
 abbrev pub soft_words : List (List ℕ)

@@ -1,16 +1,16 @@
 -- What the tokens of a text say where their kinds let them stand: places, names and literals.
 use Rattle.std.specs.Prelude.{ℕ, ◌+◌, ◌-◌, ◌^◌, nat_le, nat_lt, if◌then◌else◌, List, [], ◌∷◌, Option, Some, None, slice_index_or, codes, ℤ, pos, neg_ℤ, Bool, true, false}
 use Rattle.vdb_base.specs.declared.value.Value.TheVariants as value
-use Rattle.sql_reader.specs.declared.token.Kind.{Kind}
-use Rattle.sql_reader.specs.declared.token.Kind.TheVariants as kind
-use Rattle.sql_reader.specs.declared.token.Token.{Token}
+use Rattle.sql_tokens.specs.declared.token.Kind.{Kind}
+use Rattle.sql_tokens.specs.declared.token.Kind.TheVariants as kind
+use Rattle.sql_tokens.specs.declared.token.Token.{Token}
 use Rattle.sql_reader.specs.declared.tree.name.Name.{Name}
 use Rattle.sql_reader.specs.declared.tree.expr.Literal.{Literal}
 use Rattle.sql_reader.specs.declared.tree.expr.Constant.{Constant}
 use Rattle.sql_reader.specs.declared.tree.expr.Constant.TheVariants as constant
-use Rattle.sql_reader.specs.Parts.{bytes_of, inner, name_of, text_of}
-use Rattle.sql_reader.specs.Values.{single, decimal}
-use Rattle.sql_reader.specs.Words.{is_same}
+use Rattle.sql_tokens.specs.Parts.{bytes_of, inner, name_of, text_of}
+use Rattle.sql_tokens.specs.Values.{single, decimal}
+use Rattle.sql_tokens.specs.Words.{is_same}
 
 -- a text and its tokens
 pub record Source : Type 0 where
@@ -46,6 +46,14 @@ positive n = if nat_lt n (2 ^ 127) then constant.Value (value.Num (pos n)) else 
 abbrev pub negative : ℕ → Constant
 negative n = if nat_le n (2 ^ 127) then constant.Value (value.Num (neg_ℤ (pos n))) else constant.TooLong
 
+-- a numeral's number, where one past 2 ^ 127 stands for all that are longer
+abbrev pub whole : ℕ → ℕ
+whole n = if nat_le n (2 ^ 127) then n else 2 ^ 127 + 1
+
+abbrev pub whole_of : Kind → List ℕ → ℕ
+whole_of kind.Numeral bytes = whole (decimal 0 bytes)
+whole_of _ bytes = 0
+
 -- TRUE, FALSE or NULL
 abbrev pub word_constant : List ℕ → Constant
 word_constant word =
@@ -60,11 +68,11 @@ constant_of kind.Text bytes = constant.Value (value.Str (or_empty (text_of (sing
 constant_of _ bytes = word_constant bytes
 
 abbrev pub literal_of_token : Source → Token → Literal
-literal_of_token s t = record { constant = constant_of t.kind (bytes_of s.text t); at = t.start }
+literal_of_token s t = record { constant = constant_of t.kind (bytes_of s.text t); negative = false; whole = whole_of t.kind (bytes_of s.text t); at = t.start }
 
 abbrev pub literal_at : Source → ℕ → Literal
 literal_at s n = literal_of_token s (last_token s n)
 
 -- a numeral after a `-`, whose place is that of the sign
 abbrev pub negative_at : Source → ℕ → Literal
-negative_at s n = record { constant = negative (decimal 0 (bytes_of s.text (last_token s n))); at = place_at s (n - 1) }
+negative_at s n = record { constant = negative (decimal 0 (bytes_of s.text (last_token s n))); negative = true; whole = whole (decimal 0 (bytes_of s.text (last_token s n))); at = place_at s (n - 1) }

@@ -3,7 +3,7 @@ use Rattle.std.specs.Prelude.{ℕ, List, [], ◌∷◌, ◌≡◌, ◌+◌, ◌-
 use Rattle.grammar.specs.declared.machine.Event.{Event}
 use Rattle.grammar.specs.declared.reader.Front.{Front}
 use Rattle.grammar.specs.Reading.{IsSentence, IsReading, IsNone, IsFront}
-use Rattle.sql_reader.specs.declared.token.Token.{Token}
+use Rattle.sql_tokens.specs.declared.token.Token.{Token}
 use Rattle.sql_reader.specs.declared.read.ReadFault.{ReadFault}
 use Rattle.sql_reader.specs.declared.read.ReadFault.TheVariants.{Syntax, Memory}
 use Rattle.sql_reader.specs.declared.read.SetRead.{SetRead}
@@ -14,7 +14,7 @@ use Rattle.sql_reader.specs.Kinds.{kinds_of}
 use Rattle.sql_reader.specs.Source.{Source}
 use Rattle.sql_reader.specs.Symbols.{STATEMENT_RULE, SET_ONLY_RULE}
 use Rattle.sql_reader.specs.Table.{table}
-use Rattle.sql_reader.specs.Tokens.{tokens_from}
+use Rattle.sql_tokens.specs.Tokens.{tokens_from}
 use Rattle.sql_reader.specs.Waiting.{Waiting, none}
 
 abbrev pub source_of : List ℕ → Source

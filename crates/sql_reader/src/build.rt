@@ -24,7 +24,7 @@ use vdb_base::NoMemory;
 
 /// What is done with the parts that wait.
 #[derive(Clone, Copy, Debug)]
-pub(crate) enum Action {
+pub enum Action {
     Nothing,
     Token(TokenAction),
     Expr(ExprAction),
@@ -32,8 +32,9 @@ pub(crate) enum Action {
     Statement(StatementAction),
 }
 
+/// What is made of single tokens, and of names.
 #[derive(Clone, Copy, Debug)]
-pub(crate) enum TokenAction {
+pub enum TokenAction {
     Place,
     Name,
     Literal,
@@ -45,8 +46,9 @@ pub(crate) enum TokenAction {
     RelationOf,
 }
 
+/// What is made of parts of expressions.
 #[derive(Clone, Copy, Debug)]
-pub(crate) enum ExprAction {
+pub enum ExprAction {
     Constant,
     Column,
     Parens,
@@ -71,8 +73,9 @@ pub(crate) enum ExprAction {
     CaseElse,
 }
 
+/// What is made of parts of queries.
 #[derive(Clone, Copy, Debug)]
-pub(crate) enum QueryAction {
+pub enum QueryAction {
     Select,
     Distinct,
     All,
@@ -98,8 +101,9 @@ pub(crate) enum QueryAction {
     Offset,
 }
 
+/// What is made of parts of statements.
 #[derive(Clone, Copy, Debug)]
-pub(crate) enum StatementAction {
+pub enum StatementAction {
     Query,
     Explain,
     Names,

@@ -3,16 +3,16 @@
 ghost use Rattle.std.specs.Prelude.{◌≡◌, ◌<◌, ◌&&◌, ◌==◌, not, length, false, IfOk, IfSome};
 ghost use Rattle.sql_reader.specs.Kinds as spec;
 ghost use Rattle.sql_reader.specs.SoftWords.{soft};
-ghost use Rattle.sql_reader.specs.Values.{single};
+ghost use Rattle.sql_tokens.specs.Values.{single};
 
-use crate::parts::{NAME_LIMIT, bytes_of, inner};
-use crate::reserved::{place_of, reserved};
 use crate::soft_words::SOFT_WORDS;
 use crate::symbols::{
     AT_LEAST, AT_MOST, BARS, CLOSE, COMMA, DOT, EQUAL, FIRST_WORD, FRACTION, GREATER, LESS, MINUS,
     NAME, NOT_EQUAL, NOWHERE, NUMERAL, OPEN, PLUS, SEMICOLON, STRING, TIMES,
 };
-use crate::token::{Kind, Token};
+use sql_tokens::parts::{NAME_LIMIT, bytes_of, inner};
+use sql_tokens::reserved::{place_of, reserved};
+use sql_tokens::{Kind, Token};
 use std::alloc::Global;
 use vdb_base::NoMemory;
 

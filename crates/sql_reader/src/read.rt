@@ -11,10 +11,9 @@ use crate::build::{Parts, Source, build};
 use crate::kinds::kinds_of;
 use crate::symbols::{SET_ONLY_RULE, STATEMENT_RULE};
 use crate::table::rules;
-use crate::token::Tokens;
-use crate::tokens::read_tokens;
 use crate::tree::{Query, Statement};
 use grammar::{Front, Grammar, Log};
+use sql_tokens::{Tokens, read_tokens};
 use std::alloc::Global;
 use vdb_base::NoMemory;
 

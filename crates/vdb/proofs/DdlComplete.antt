@@ -6,14 +6,14 @@ use Rattle.std.proofs.lemmas.Bool.Decides.{nat_tests}
 use Rattle.vdb_base.specs.declared.value.Ty.{Ty}
 use Rattle.vdb_base.specs.declared.value.Ty.TheVariants.{Boolean, Integer, Long, BigInteger, Str}
 use Rattle.vdb_model.specs.declared.typed.VarDef.{VarDef}
-use Rattle.sql_reader.specs.declared.token.Kind.{Kind}
-use Rattle.sql_reader.specs.declared.token.Kind.TheVariants.{Open, Close, Comma, Semicolon}
-use Rattle.sql_reader.specs.declared.token.Token.{Token}
-use Rattle.sql_reader.specs.Spelling.{Part, Keyword, Named, Sign, AllFit}
-use Rattle.sql_reader.specs.Reading.{Reading, same_kind, word_at, sign_at}
-use Rattle.sql_reader.specs.Tokens.{tokens_from}
-use Rattle.sql_reader.proofs.SameKind.{is_kind}
-use Rattle.sql_reader.proofs.Complete.{Then, name_complete}
+use Rattle.sql_tokens.specs.declared.token.Kind.{Kind}
+use Rattle.sql_tokens.specs.declared.token.Kind.TheVariants.{Open, Close, Comma, Semicolon}
+use Rattle.sql_tokens.specs.declared.token.Token.{Token}
+use Rattle.sql_tokens.specs.Spelling.{Part, Keyword, Named, Sign, AllFit}
+use Rattle.sql_tokens.specs.Reading.{Reading, same_kind, word_at, sign_at}
+use Rattle.sql_tokens.specs.Tokens.{tokens_from}
+use Rattle.sql_tokens.proofs.SameKind.{is_kind}
+use Rattle.sql_tokens.proofs.Complete.{Then, name_complete}
 use Rattle.vdb.specs.declared.ddl.Ddl.{Ddl}
 use Rattle.vdb.specs.declared.ddl.DdlTable.{DdlTable}
 use Rattle.vdb.specs.Ddl.{IsDdl, type_name, more_columns, columns_spelled, table_spelled, tables_spelled, last_mark, spelled, HaveColumns}

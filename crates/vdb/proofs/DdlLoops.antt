@@ -2,8 +2,8 @@
 use Rattle.std.proofs.Common.{◌≡◌, ℕ, zero, suc, ◌<◌, ◌==◌, true, false, List, [], ◌∷◌, ◌++◌, length, Option, Some, None, refl, ap, sym, ◌∙◌, append_assoc, append-nil, if◌then◌else◌, arith}
 use Rattle.std.specs.Option.{option_map, option_and_then, is_some, MatchOption, OnSome}
 use Rattle.vdb_model.specs.declared.typed.VarDef.{VarDef}
-use Rattle.sql_reader.specs.declared.token.Kind.TheVariants.{Comma, Semicolon}
-use Rattle.sql_reader.specs.Reading.{Reading, next_sign}
+use Rattle.sql_tokens.specs.declared.token.Kind.TheVariants.{Comma, Semicolon}
+use Rattle.sql_tokens.specs.Reading.{Reading, next_sign}
 use Rattle.vdb.specs.declared.ddl.DdlTable.{DdlTable}
 use Rattle.vdb.specs.DdlRoute.{behind, next_kind, next_column, with_column, column_first, after_comma, columns_left, all_columns, next_columns, next_table, with_table, table_first, after_mark, tables_left, all_tables}
 

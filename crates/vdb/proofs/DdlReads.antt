@@ -1,10 +1,10 @@
 -- The reader reads exactly the DDLs.
 use Rattle.std.proofs.Common.{◌≡◌, ℕ, List, Some, None, Result, Ok, Err, ap, sym, ◌∙◌}
 use Rattle.std.specs.Prelude.{IfOk}
-use Rattle.sql_reader.specs.declared.token.Token.{Token}
-use Rattle.sql_reader.specs.declared.fault.ReadFault.{ReadFault}
-use Rattle.sql_reader.specs.Tokens.{tokens_from}
-use Rattle.sql_reader.specs.Reading.{Reading}
+use Rattle.sql_tokens.specs.declared.token.Token.{Token}
+use Rattle.sql_tokens.specs.declared.fault.ReadFault.{ReadFault}
+use Rattle.sql_tokens.specs.Tokens.{tokens_from}
+use Rattle.sql_tokens.specs.Reading.{Reading}
 use Rattle.vdb.specs.declared.ddl.Ddl.{Ddl}
 use Rattle.vdb.specs.Ddl.{IsDdl}
 use Rattle.vdb.specs.DdlRoute.{whole}

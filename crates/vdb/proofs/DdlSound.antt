@@ -7,12 +7,12 @@ use Rattle.vdb_base.specs.declared.value.Ty.{Ty}
 use Rattle.vdb_model.specs.declared.typed.VarDef.{VarDef}
 use Rattle.vdb_model.specs.Defs.{same_name}
 use Rattle.vdb_model.specs.Typed.{types}
-use Rattle.sql_reader.specs.declared.token.Kind.{Kind}
-use Rattle.sql_reader.specs.declared.token.Kind.TheVariants.{Open, Close, Comma, Semicolon}
-use Rattle.sql_reader.specs.declared.token.Token.{Token}
-use Rattle.sql_reader.specs.Spelling.{Part, Keyword, Named, Sign, SignAt, AllFit}
-use Rattle.sql_reader.specs.Reading.{Reading, next_word, next_sign, next_name}
-use Rattle.sql_reader.proofs.Sound.{chain, mapped, LeftFits, word_sound, sign_sound, name_sound}
+use Rattle.sql_tokens.specs.declared.token.Kind.{Kind}
+use Rattle.sql_tokens.specs.declared.token.Kind.TheVariants.{Open, Close, Comma, Semicolon}
+use Rattle.sql_tokens.specs.declared.token.Token.{Token}
+use Rattle.sql_tokens.specs.Spelling.{Part, Keyword, Named, Sign, SignAt, AllFit}
+use Rattle.sql_tokens.specs.Reading.{Reading, next_word, next_sign, next_name}
+use Rattle.sql_tokens.proofs.Sound.{chain, mapped, LeftFits, word_sound, sign_sound, name_sound}
 use Rattle.vdb.specs.declared.ddl.Ddl.{Ddl}
 use Rattle.vdb.specs.declared.ddl.DdlTable.{DdlTable}
 use Rattle.vdb.specs.Ddl.{type_name, more_columns, columns_spelled, table_spelled, tables_spelled, last_mark, spelled, HaveColumns}

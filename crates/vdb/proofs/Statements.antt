@@ -1,11 +1,11 @@
 -- The statements of a script, found in turn.
 use Rattle.std.proofs.Common.{◌≡◌, ◌≤◌, ℕ, ◌+◌, Bool, true, false, List, [], ◌∷◌, Some, None, length, drop, refl, sym, ap, if◌then◌else◌}
-use Rattle.sql_reader.specs.declared.token.Token.{Token}
-use Rattle.sql_reader.specs.declared.cut.Found.{Found}
-use Rattle.sql_reader.specs.declared.cut.Found.TheVariants.{Statement, More, End}
-use Rattle.sql_reader.specs.Tokens.{tokens_from}
-use Rattle.sql_reader.specs.Cut.{found, statement, cuts, cut_after}
-use Rattle.sql_reader.proofs.Turns.{found_in_turn}
+use Rattle.sql_tokens.specs.declared.token.Token.{Token}
+use Rattle.sql_tokens.specs.declared.cut.Found.{Found}
+use Rattle.sql_tokens.specs.declared.cut.Found.TheVariants.{Statement, More, End}
+use Rattle.sql_tokens.specs.Tokens.{tokens_from}
+use Rattle.sql_tokens.specs.Cut.{found, statement, cuts, cut_after}
+use Rattle.sql_tokens.proofs.Turns.{found_in_turn}
 use Rattle.vdb.specs.Script.{part, pieces, statements_from}
 
 abbrev is_statement : Found → Bool

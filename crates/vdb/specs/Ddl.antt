@@ -3,9 +3,9 @@ use Rattle.std.specs.Prelude.{⊤, ℕ, ◌<◌, Bool, true, false, List, [], �
 use Rattle.vdb_base.specs.declared.value.Ty.{Ty}
 use Rattle.vdb_base.specs.declared.value.Ty.TheVariants.{Boolean, Integer, Long, BigInteger, Str}
 use Rattle.vdb_model.specs.declared.typed.VarDef.{VarDef}
-use Rattle.sql_reader.specs.declared.token.Kind.TheVariants.{Open, Close, Comma, Semicolon}
-use Rattle.sql_reader.specs.Tokens.{tokens_from}
-use Rattle.sql_reader.specs.Spelling.{Part, Keyword, Named, Sign, AllFit}
+use Rattle.sql_tokens.specs.declared.token.Kind.TheVariants.{Open, Close, Comma, Semicolon}
+use Rattle.sql_tokens.specs.Tokens.{tokens_from}
+use Rattle.sql_tokens.specs.Spelling.{Part, Keyword, Named, Sign, AllFit}
 use Rattle.vdb.specs.declared.ddl.Ddl.{Ddl}
 use Rattle.vdb.specs.declared.ddl.DdlTable.{DdlTable}
 

@@ -5,9 +5,9 @@ use Rattle.vdb_base.specs.declared.value.Ty.{Ty}
 use Rattle.vdb_model.specs.declared.typed.VarDef.{VarDef}
 use Rattle.vdb_model.specs.Defs.{same_name}
 use Rattle.vdb_model.specs.Typed.{types}
-use Rattle.sql_reader.specs.declared.token.Kind.{Kind}
-use Rattle.sql_reader.specs.declared.token.Kind.TheVariants.{Open, Close, Comma, Semicolon}
-use Rattle.sql_reader.specs.Reading.{Reading, next_word, next_sign, next_name}
+use Rattle.sql_tokens.specs.declared.token.Kind.{Kind}
+use Rattle.sql_tokens.specs.declared.token.Kind.TheVariants.{Open, Close, Comma, Semicolon}
+use Rattle.sql_tokens.specs.Reading.{Reading, next_word, next_sign, next_name}
 use Rattle.vdb.specs.declared.ddl.Ddl.{Ddl}
 use Rattle.vdb.specs.declared.ddl.DdlTable.{DdlTable}
 use Rattle.vdb.specs.Ddl.{type_name}

@@ -9,8 +9,8 @@ use Rattle.vdb_model.specs.Arranged.{Arranged}
 use Rattle.vdb_model.specs.Defined.{Defined}
 use Rattle.vdb_model.specs.Rows.{Cells}
 use Rattle.vdb_model.specs.World.{rows_in}
-use Rattle.sql_reader.specs.declared.select.Select.{Select}
-use Rattle.sql_reader.specs.Select.{IsSelect}
+use Rattle.sql_tokens.specs.declared.select.Select.{Select}
+use Rattle.sql_tokens.specs.Select.{IsSelect}
 use Rattle.vdb.specs.Script.{Piece}
 use Rattle.vdb.specs.Walk.{walk}
 

@@ -5,8 +5,8 @@ use Rattle.vdb_model.specs.declared.rel.Rel.TheVariants.{Table}
 use Rattle.vdb_model.specs.declared.table.ColumnDef.{ColumnDef}
 use Rattle.vdb_model.specs.declared.table.TableDef.{TableDef}
 use Rattle.vdb_model.specs.declared.reply.Refusal.TheVariants.{Unknown}
-use Rattle.sql_reader.specs.declared.select.Select.{Select}
-use Rattle.sql_reader.specs.declared.select.Condition.{Condition}
+use Rattle.sql_tokens.specs.declared.select.Select.{Select}
+use Rattle.sql_tokens.specs.declared.select.Condition.{Condition}
 use Rattle.vdb.specs.declared.plan.Plan.{Plan}
 use Rattle.vdb.specs.declared.plan.Comparison.{Comparison}
 use Rattle.vdb.specs.declared.plan.PlanFault.{PlanFault}

@@ -1,8 +1,8 @@
 -- The statements of a script.
 use Rattle.std.specs.Prelude.{ℕ, ◌-◌, Bool, List, [], ◌∷◌, take, drop}
-use Rattle.sql_reader.specs.declared.cut.Found.{Found}
-use Rattle.sql_reader.specs.declared.cut.Found.TheVariants.{Statement, More, End}
-use Rattle.sql_reader.specs.Laws.{statements}
+use Rattle.sql_tokens.specs.declared.cut.Found.{Found}
+use Rattle.sql_tokens.specs.declared.cut.Found.TheVariants.{Statement, More, End}
+use Rattle.sql_tokens.specs.Laws.{statements}
 
 -- the most bytes that a script may have
 abbrev pub script_limit : ℕ

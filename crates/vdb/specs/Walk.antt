@@ -16,8 +16,8 @@ use Rattle.vdb_model.specs.declared.table.ColumnDef.{ColumnDef}
 use Rattle.vdb_model.specs.declared.table.TableDef.{TableDef}
 use Rattle.vdb_model.specs.Defs.{same_name}
 use Rattle.vdb_model.specs.NameText.{name_text, dotted}
-use Rattle.sql_reader.specs.declared.select.Select.{Select}
-use Rattle.sql_reader.specs.declared.select.Condition.{Condition}
+use Rattle.sql_tokens.specs.declared.select.Select.{Select}
+use Rattle.sql_tokens.specs.declared.select.Condition.{Condition}
 
 abbrev pub in_schema : Option (List ℕ) → TableDef → Bool
 in_schema None d = true

@@ -7,7 +7,7 @@ ghost use Rattle.vdb.specs.Answering.{noted, AnswersOne, IsAnswered};
 use crate::engine::{Answer, Engine};
 use crate::print::print_reply;
 use resource::Resource;
-use sql_reader::{Found, next_statement};
+use sql_tokens::{Found, next_statement};
 use std::alloc::Global;
 use vdb_base::Sink;
 use vdb_model::Reply;

@@ -1,12 +1,12 @@
 //! The first, small form of DDL: one server of CSV files, one schema on it, and its foreign tables.
 
 ghost use Rattle.std.specs.Prelude.{◌≡◌, ◌<◌, ◌≤◌, Some, None, length, IfOk, OnOk, IsErrOf};
-ghost use Rattle.sql_reader.specs.Words.{shown};
+ghost use Rattle.sql_tokens.specs.Words.{shown};
 ghost use Rattle.vdb.specs.Ddl.{IsDdl};
 ghost use Rattle.vdb.specs.DdlLaws.{OneDdl};
 ghost use Rattle.vdb.specs.DdlRoute as spec;
 
-use sql_reader::{Cursor, Kind, ReadFault, read_tokens};
+use sql_tokens::{Cursor, Kind, ReadFault, read_tokens};
 use std::alloc::Global;
 use vdb_base::{Seq, Text, Ty};
 use vdb_model::{VarDef, VarDefs};

@@ -8,7 +8,7 @@ ghost use Rattle.vdb.specs.Deploy.{IsDeployed};
 ghost use Rattle.vdb.specs.Places.{are_placed, are_open, all_narrow};
 
 use crate::ddl::{Ddl, DdlTable, read_ddl};
-use sql_reader::ReadFault;
+use sql_tokens::ReadFault;
 use std::alloc::Global;
 use vdb_base::{NoMemory, Seq, Text};
 use vdb_model::{

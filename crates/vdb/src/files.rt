@@ -11,7 +11,7 @@ use crate::maker::{MakeFault, Maker};
 use crate::parts::Parts;
 use crate::words::{Conn, Setup};
 use resource::{Lane, Lanes, MemResource, StoredTable, Tables};
-use sql_reader::ReadFault;
+use sql_tokens::ReadFault;
 use std::alloc::Global;
 use std::fs::{self, Files};
 use std::io::{self, ErrorKind};

@@ -9,7 +9,7 @@ ghost use Rattle.vdb.specs.Places.{all_narrow, are_placed};
 ghost use Rattle.vdb.specs.Plans.{numbers, asked_columns, IsInRange};
 ghost use Rattle.vdb_model.specs.Defs.{all_below};
 
-use sql_reader::{Condition, Select};
+use sql_tokens::{Condition, Select};
 use std::alloc::Global;
 use vdb_base::{NoMemory, Seq, Text, Ty, Value};
 use vdb_model::{ColumnDef, Names, Refusal, TableDef, dotted, printed};

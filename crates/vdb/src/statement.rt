@@ -6,7 +6,7 @@ ghost use Rattle.vdb.specs.Plans.{IsInRange};
 ghost use Rattle.vdb.specs.Statement.{HasPlan};
 
 use crate::plan::{Plan, PlanFault, make_plan};
-use sql_reader::{ReadFault, read_select};
+use sql_tokens::{ReadFault, read_select};
 use std::alloc::Global;
 use vdb_model::{Catalog, Refusal};
 

@@ -10,10 +10,10 @@ use Rattle.grammar.specs.Table.{Rules}
 use Rattle.grammar.specs.declared.fault.ReadFault.{ReadFault}
 use Rattle.grammar.specs.declared.fault.ReadFault.TheVariants.{Syntax}
 use Rattle.grammar.proofs.Runs.{one_front, one_reading}
-use Rattle.sql_reader.specs.declared.token.Token.{Token}
+use Rattle.sql_tokens.specs.declared.token.Token.{Token}
 use Rattle.sql_reader.specs.Kinds.{kinds_of}
 use Rattle.sql_reader.specs.Source.{Source}
-use Rattle.sql_reader.specs.Tokens.{IsWithin, tokens_from}
+use Rattle.sql_tokens.specs.Tokens.{IsWithin, tokens_from}
 use Rattle.sql_reader.specs.Trees.{kinds, place_of, start_or, source_of}
 use Rattle.sql_reader.specs.Trees as trees
 use Rattle.sql_reader.specs.declared.read.ReadFault as sql

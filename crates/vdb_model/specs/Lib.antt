@@ -25,3 +25,6 @@ pub mod Sizes
 pub mod Closed
 pub mod Expanded
 pub mod Stacked
+pub mod Chains
+pub mod Columns
+pub mod WellFormed

@@ -1,14 +1,14 @@
 //! The catalog: all that a deployment defines.
 
-ghost use Rattle.std.specs.Prelude.{◌≡◌, []};
+ghost use Rattle.std.specs.Prelude.{◌≡◌, [], ◌∷◌, ◌++◌, OnOk, OnErr};
 
 use crate::rel::Rel;
 use crate::source::Caps;
-use crate::table::{Kind, TableDefs};
+use crate::table::{Kind, TableDef, TableDefs};
 use crate::typed::{TypedBlock, VarDefs};
 use std::alloc::Global;
 use std::marker::Model;
-use vdb_base::{Seq, Text};
+use vdb_base::{NoMemory, Seq, Text};
 
 #[derive(Debug, Drop)]
 pub struct ServerDef {
@@ -143,6 +143,38 @@ impl Catalog {
         ensures { result ≡ record self { views = views } }
     {
         Catalog { views, ..self }
+    }
+
+    /// Adds a server after the others.
+    pub fn add_server(&mut self, server: ServerDef) -> Result<(), NoMemory>
+        ensures ok { OnOk result (self.new ≡ record self.old { servers = self.old.servers ++ server ∷ [] }) }
+        ensures err { OnErr result (self.new ≡ self.old) }
+    {
+        self.servers.push(server)
+    }
+
+    /// Adds a schema after the others.
+    pub fn add_schema(&mut self, schema: SchemaDef) -> Result<(), NoMemory>
+        ensures ok { OnOk result (self.new ≡ record self.old { schemas = self.old.schemas ++ schema ∷ [] }) }
+        ensures err { OnErr result (self.new ≡ self.old) }
+    {
+        self.schemas.push(schema)
+    }
+
+    /// Adds a foreign table after the others.
+    pub fn add_table(&mut self, table: TableDef) -> Result<(), NoMemory>
+        ensures ok { OnOk result (self.new ≡ record self.old { tables = self.old.tables ++ table ∷ [] }) }
+        ensures err { OnErr result (self.new ≡ self.old) }
+    {
+        self.tables.push(table)
+    }
+
+    /// Adds a view after the others.
+    pub fn add_view(&mut self, view: ViewDef) -> Result<(), NoMemory>
+        ensures ok { OnOk result (self.new ≡ record self.old { views = self.old.views ++ view ∷ [] }) }
+        ensures err { OnErr result (self.new ≡ self.old) }
+    {
+        self.views.push(view)
     }
 
     pub fn servers(&self) -> &ServerDefs

@@ -2,9 +2,9 @@
 //!
 //! Nothing is run here. `specs/` holds the definitions that every crate above cites: the value of an expression, the rows of
 //! a relation in a world, arranged rows, which source queries a source can answer and what it may answer, the lines of
-//! replies and refusals. The types are those of trees whose names are resolved; each list of them can be copied, and a copy
-//! equals its original. `Caps::can` is the test of capabilities, and `typed_is_exact` the law that on typed expressions
-//! every number stays within 128 bits.
+//! replies and refusals, and which catalogs are well formed. The types are those of trees whose names are resolved; each list
+//! of them can be copied, and a copy equals its original. `Caps::can` is the test of capabilities, and `typed_is_exact` the
+//! law that on typed expressions every number stays within 128 bits. `Catalog` doesn't keep yet that it is well formed.
 #![tactic(auto)]
 
 mod bag;

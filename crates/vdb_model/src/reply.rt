@@ -1,5 +1,7 @@
 //! Replies to statements, refusals, and faults of a deployment.
 
+ghost use Rattle.std.specs.Prelude.{◌≡◌};
+
 use crate::rel::Names;
 use vdb_base::{Rows, Seq, Text, Texts};
 
@@ -81,6 +83,37 @@ pub enum Refusal {
         needed: u64,
         left: u64,
     },
+}
+
+impl Refusal {
+    ghost use Rattle.vdb_model.specs.RefusalText.{refusal_number};
+
+    /// Its number, which stands before its text.
+    pub fn number(&self) -> u64
+        ensures { result ≡ refusal_number self.now }
+    {
+        match self {
+            Refusal::Syntax { .. } => 1,
+            Refusal::Unknown { .. } => 2,
+            Refusal::Ambiguous { .. } => 3,
+            Refusal::Mismatch { .. } => 4,
+            Refusal::Fractional { .. } => 5,
+            Refusal::TooWide { .. } => 6,
+            Refusal::Unbound { .. } => 7,
+            Refusal::NotUpdatable { .. } => 8,
+            Refusal::ReadOnly { .. } => 9,
+            Refusal::NullInto { .. } => 10,
+            Refusal::DuplicateKey { .. } => 11,
+            Refusal::OutOfRange { .. } => 12,
+            Refusal::TooLong { .. } => 13,
+            Refusal::Raised { .. } => 14,
+            Refusal::BudgetSpent => 15,
+            Refusal::Transaction { .. } => 16,
+            Refusal::Doomed { .. } => 17,
+            Refusal::TooLarge { .. } => 18,
+            Refusal::LogFull { .. } => 19,
+        }
+    }
 }
 
 /// Why a database can't be opened. Places are byte offsets in its DDL; names stand as they are printed.

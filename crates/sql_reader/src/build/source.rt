@@ -2,13 +2,13 @@
 
 ghost use Rattle.std.specs.Prelude.{◌≡◌, ◌^◌, pos, IfOk};
 ghost use Rattle.sql_reader.specs.Source as spec;
-ghost use Rattle.sql_reader.specs.Values.{decimal};
+ghost use Rattle.sql_tokens.specs.Values.{decimal};
 
-use crate::parts::{bytes_of, inner, name_of, text_of};
-use crate::reserved::is_same;
-use crate::token::{Kind, Token};
 use crate::tree::{Constant, Literal, Name};
-use crate::values::{single, value};
+use sql_tokens::parts::{bytes_of, inner, name_of, text_of};
+use sql_tokens::reserved::is_same;
+use sql_tokens::values::{single, value};
+use sql_tokens::{Kind, Token};
 use std::alloc::Global;
 use std::marker::Model;
 use vdb_base::{NoMemory, Text, Value};
@@ -54,6 +54,26 @@ fn negative(digits: &[u8]) -> Constant
             Constant::Value(Value::Num(-((number - 1) as i128) - 1))
         }
         _ => Constant::TooLong,
+    }
+}
+
+/// A numeral's number, where one past 2^127 stands for all that are longer.
+fn whole(digits: &[u8]) -> u128
+    ensures { result ≡ spec.whole (decimal 0 digits.now) }
+{
+    match value(digits) {
+        Some(number) if number <= 1 << 127 => number,
+        _ => (1 << 127) + 1,
+    }
+}
+
+/// The number of a numeral, and 0 of other tokens.
+fn whole_of(kind: Kind, bytes: &[u8]) -> u128
+    ensures { result ≡ spec.whole_of kind bytes.now }
+{
+    match kind {
+        Kind::Numeral => whole(bytes),
+        _ => 0,
     }
 }
 
@@ -130,9 +150,11 @@ impl<'a> Source<'a> {
         ensures { IfOk result (λ literal. literal ≡ spec.literal_at self.now count) }
     {
         let token = self.last_token(count);
-        let constant = constant_of(alloc, token.kind, bytes_of(self.text, token))?;
+        let bytes = bytes_of(self.text, token);
         Ok(Literal {
-            constant,
+            constant: constant_of(alloc, token.kind, bytes)?,
+            negative: false,
+            whole: whole_of(token.kind, bytes),
             at: token.start,
         })
     }
@@ -141,9 +163,11 @@ impl<'a> Source<'a> {
     pub(crate) fn negative_at(&self, count: usize) -> Literal
         ensures { result ≡ spec.negative_at self.now count }
     {
-        let token = self.last_token(count);
+        let bytes = bytes_of(self.text, self.last_token(count));
         Literal {
-            constant: negative(bytes_of(self.text, token)),
+            constant: negative(bytes),
+            negative: true,
+            whole: whole(bytes),
             at: self.place_at(count.saturating_sub(1)),
         }
     }

@@ -18,6 +18,10 @@ pub enum Constant {
 #[derive(Debug, Drop)]
 pub struct Literal {
     pub constant: Constant,
+    /// Whether it has a `-`.
+    pub negative: bool,
+    /// A numeral's number without its sign, where one past 2^127 stands for all that are longer; 0 for other literals.
+    pub whole: u128,
     pub at: usize,
 }
 

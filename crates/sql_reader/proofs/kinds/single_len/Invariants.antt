@@ -1,5 +1,5 @@
 use Rattle.std.proofs.Common.{◌≡◌, ◌≤◌, ◌+◌, length, drop, false}
-use Rattle.sql_reader.specs.Values.{single}
+use Rattle.sql_tokens.specs.Values.{single}
 use Rattle.sql_reader.proofs.kinds.single_len.Given as goal
 
 abbrev pub invariant-loop-b : goal.invariant-loop-b

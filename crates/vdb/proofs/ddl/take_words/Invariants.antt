@@ -1,5 +1,5 @@
 use Rattle.std.proofs.Common.{◌≡◌, ◌≤◌, drop, length}
-use Rattle.sql_reader.specs.Words.{shown}
+use Rattle.sql_tokens.specs.Words.{shown}
 use Rattle.vdb.specs.DdlRoute.{next_words}
 use Rattle.vdb.proofs.ddl.take_words.Given as goal
 

@@ -1,5 +1,0 @@
-use Rattle.sql_reader.proofs.Turns.{found_in_turn}
-use Rattle.sql_reader.proofs.laws.found_in_turn.Goals as goal
-
-pub returns : goal.returns
-returns c = found_in_turn

@@ -1,5 +1,0 @@
-use Rattle.sql_reader.proofs.Written.{written_is_read}
-use Rattle.sql_reader.proofs.laws.written_is_read.Goals as goal
-
-pub returns : goal.returns
-returns c = written_is_read

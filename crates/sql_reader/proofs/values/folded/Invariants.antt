@@ -1,6 +1,0 @@
-use Rattle.std.proofs.Common.{◌≡◌, ◌++◌, drop}
-use Rattle.sql_reader.specs.Values.{folded}
-use Rattle.sql_reader.proofs.values.folded.Given as goal
-
-abbrev pub invariant-loop-b : goal.invariant-loop-b
-invariant-loop-b l = l.made.items ++ folded (drop l.b-index l.bytes) ≡ folded l.bytes

@@ -1,0 +1,15 @@
+pub mod Bytes
+pub mod Lengths
+pub mod Pieces
+pub mod Tokens
+pub mod Cut
+pub mod Values
+pub mod Laws
+pub mod Words
+pub mod Parts
+pub mod Said
+pub mod Spelling
+pub mod Select
+pub mod Reading
+pub mod NextNames
+pub mod Parse
