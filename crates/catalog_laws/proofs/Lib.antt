@@ -1,0 +1,15 @@
+pub mod ClosedExprs
+pub mod ClosedFrom
+pub mod ClosedItems
+pub mod ClosedKnown
+pub mod ClosedRels
+pub mod ClosedSelects
+pub mod ClosedSets
+pub mod ClosedStatements
+pub mod DeployGives
+pub mod Held
+pub mod HeldItems
+pub mod HeldTables
+pub mod HeldViews
+pub mod TreeByKinds
+pub mod WalkGives

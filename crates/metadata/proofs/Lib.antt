@@ -1,0 +1,3 @@
+pub mod ChainByKinds
+pub mod Digits
+mod Worked

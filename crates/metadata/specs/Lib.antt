@@ -1,0 +1,14 @@
+pub mod Tests
+pub mod Answers
+pub mod Options
+pub mod Types
+pub mod SoFar
+pub mod Databases
+pub mod Servers
+pub mod Schemas
+pub mod Columns
+pub mod Tables
+pub mod Parts
+pub mod Walked
+pub mod Views
+pub mod Deployed

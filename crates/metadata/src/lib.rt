@@ -1,0 +1,39 @@
+//! Deploys a DDL: its items in turn give a catalog, or the first fault.
+//!
+//! `deploy` takes the items that vdb_ddl read and the connections, and answers exactly what `specs/Deployed` says: the catalog
+//! that the items define, or the fault that comes first in the order of the items and, within an item, in the order of its
+//! tests. `specs/` says what each item adds and which tests it has, one kind of item a file: `Databases`, `Servers`, `Schemas`,
+//! `Tables` with `Columns`, `Views`; `Options` and `Types` say what options and types are. Want of memory is an answer of its own,
+//! and no contract says when it comes; a number past 32 bits counts as one.
+//!
+//! The query of a view is typed by the resolver. `deploy_by` is the same over any `ViewWalk`, whose refusal's number the fault
+//! carries. That a deployed catalog is well formed isn't proved yet. Procedures, triggers and access patterns have no items yet.
+//! Names are looked up by going through lists: an item takes time in the number of relations, and a relation's columns are
+//! compared with each other, which takes long only in an item that is refused, since others have 256 columns at most.
+#![tactic(auto)]
+
+mod chains;
+mod columns;
+mod connection;
+mod databases;
+mod deployment;
+mod fault;
+mod options;
+mod parts;
+mod schemas;
+mod servers;
+mod sizes;
+mod so_far;
+mod tables;
+mod types;
+mod view_columns;
+mod views;
+mod walk;
+mod walked;
+mod without;
+
+pub use connection::{ConnInfo, ConnInfos};
+pub use deployment::deploy_by;
+pub use fault::DeployRefusal;
+pub use walk::{ViewWalk, WalkFault};
+pub use walked::deploy;

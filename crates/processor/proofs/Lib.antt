@@ -1,0 +1,5 @@
+pub mod ReadsByKinds
+pub mod SameWhereRead
+pub mod UnionOf
+pub mod WhereOverJoin
+pub mod Rules

@@ -1,0 +1,6 @@
+pub mod ByKinds
+pub mod ItemsByKinds
+pub mod OneMore
+pub mod Rules
+pub mod SetsByKinds
+mod Worked
