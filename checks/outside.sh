@@ -30,6 +30,9 @@ expect "no connection" 2 'USAGE 3'
 "$top/vdb" "${words[@]}" <"$first/bob.sql" >"$work/out"; status=$?
 expect "the example" 0 "$(printf "COLUMNS id,name\nROW 2,'Bob'\nROW 3,'Bob'\nEND 2")"
 
+"$top/vdb" run "$top/examples/shop/shop.ddl" "files=csv:$top/examples/shop/data" <"$top/examples/shop/report.sql" >"$work/out"; status=$?
+expect "the shop's report" 1 "$(cat "$top/examples/shop/report.out")"
+
 head -c 16777216 /dev/zero | tr '\0' ' ' | "$top/vdb" "${words[@]}" >"$work/out"; status=$?
 expect "16,777,216 spaces" 0 ''
 

@@ -8,11 +8,6 @@ pub mod Exactly
 pub mod Names
 pub mod Comments
 pub mod Turns
-pub mod NameLists
-pub mod SameKind
-pub mod Sound
-pub mod Complete
-pub mod SelectReads
 pub mod TextParts
 pub mod EachToken
 pub mod Spaces

@@ -8,8 +8,3 @@ pub mod Laws
 pub mod Words
 pub mod Parts
 pub mod Said
-pub mod Spelling
-pub mod Select
-pub mod Reading
-pub mod NextNames
-pub mod Parse

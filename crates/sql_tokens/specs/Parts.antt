@@ -1,14 +1,11 @@
 -- What single tokens say.
-use Rattle.std.specs.Prelude.{ℕ, Bool, true, false, ◌&&◌, ◌-◌, ◌^◌, nat_le, is_some, if◌then◌else◌, List, Option, Some, None, length, take, drop, codes, pos}
-use Rattle.std.specs.Option.{option_map}
+use Rattle.std.specs.Prelude.{ℕ, false, ◌&&◌, ◌-◌, nat_le, is_some, if◌then◌else◌, List, Option, Some, None, length, take, drop}
 use Rattle.std.specs.Str.{is_utf8}
-use Rattle.vdb_base.specs.declared.value.Value.{Value}
-use Rattle.vdb_base.specs.declared.value.Value.TheVariants.{Bool as Truth, Num, Str}
 use Rattle.sql_tokens.specs.declared.token.Kind.{Kind}
 use Rattle.sql_tokens.specs.declared.token.Kind.TheVariants as kind
 use Rattle.sql_tokens.specs.declared.token.Token.{Token}
-use Rattle.sql_tokens.specs.Values.{folded, single, decimal, below}
-use Rattle.sql_tokens.specs.Words.{is_same, reserved}
+use Rattle.sql_tokens.specs.Values.{folded, single}
+use Rattle.sql_tokens.specs.Words.{reserved}
 
 -- a token's bytes in its text
 abbrev pub bytes_of : List ℕ → Token → List ℕ
@@ -17,11 +14,6 @@ bytes_of text t = take (t.end - t.start) (drop t.start text)
 -- what stands between the quotes
 abbrev pub inner : List ℕ → List ℕ
 inner bytes = take (length bytes - 2) (drop 1 bytes)
-
--- a word that stands unquoted, in any letter case
-abbrev pub is_keyword : List ℕ → Kind → List ℕ → Bool
-is_keyword word kind.Word bytes = is_same bytes word
-is_keyword word _ bytes = false
 
 -- Bytes that are text. What a text's own tokens say always is; that is a law.
 abbrev pub text_of : List ℕ → Option (List ℕ)
@@ -36,14 +28,3 @@ abbrev pub name_of : Kind → List ℕ → Option (List ℕ)
 name_of kind.Word bytes = if is_some (reserved bytes) then None else short (folded bytes)
 name_of kind.Name bytes = short (folded (single 34 false (inner bytes)))
 name_of _ bytes = None
-
--- TRUE and FALSE
-abbrev pub truth_of : List ℕ → Option Value
-truth_of word = if is_same word (codes "true") then Some (Truth true) else if is_same word (codes "false") then Some (Truth false) else None
-
--- a numeral below 2 ^ 127, a string, TRUE or FALSE
-abbrev pub literal_of : Kind → List ℕ → Option Value
-literal_of kind.Numeral bytes = option_map (λ n. Num (pos n)) (below (2 ^ 127) (decimal 0 bytes))
-literal_of kind.Text bytes = option_map Str (text_of (single 39 false (inner bytes)))
-literal_of kind.Word bytes = truth_of bytes
-literal_of _ bytes = None

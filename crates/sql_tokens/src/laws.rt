@@ -2,7 +2,6 @@
 
 ghost use Rattle.sql_tokens.specs.Laws as law;
 ghost use Rattle.sql_tokens.specs.Said as said;
-ghost use Rattle.sql_tokens.specs.Select as query;
 
 /// A statement that is found in a script's first bytes stays found when more come.
 #[tactic(auto, using(crate::proofs::Stays::found_stays))]
@@ -41,12 +40,6 @@ pub fn comment_ends()
 /// The statements of a script are found in turn: a statement, and then those from its next place on.
 pub fn found_in_turn()
     ensures { law.FoundInTurn }
-{}
-
-/// A text is read as at most one query.
-#[tactic(auto, using(crate::proofs::Complete::one_reading))]
-pub fn one_reading()
-    ensures { query.OneReading }
 {}
 
 /// What words, quoted names and strings say is text.

@@ -5,34 +5,26 @@
 //! of `specs/`, for all bytes. `laws` holds what is proved of those definitions: a statement that was found stays found
 //! when more bytes come, statements are found in turn, and what is written in quotes is read as it was.
 //!
-//! `parts`, `values` and `reserved` say what single tokens are: names, literals and words. `sql_reader` stands on them, and so
-//! do the readers of the first program: `read_select` reads the first, small form of query, and `Cursor` takes parts from tokens one
-//! by one for the reader of the first DDL in `vdb`. `read_select` answers with a tree exactly where the text is spelled as that
-//! tree is, and a text is spelled as at most one tree.
+//! `parts`, `values` and `reserved` say what single tokens are: names, numerals and words. The readers of SQL and of the DDL,
+//! `sql_reader` and `vdb_ddl`, stand on them, and the session cuts its scripts by `next_statement`.
 //!
-//! Each call is one pass over its text. Memory is taken for tokens and trees alone; want of it is an answer of its own, and no
+//! Each call is one pass over its text. Memory is taken for tokens and names alone; want of it is an answer of its own, and no
 //! contract says when it comes.
 #![tactic(auto)]
 
 mod bytes;
-mod cursor;
 mod cut;
-mod fault;
 pub mod laws;
 mod lengths;
 pub mod parts;
 mod pieces;
 pub mod reserved;
-mod select;
 #[cfg(test)]
 mod tests;
 mod token;
 mod tokens;
 pub mod values;
 
-pub use cursor::Cursor;
 pub use cut::{Found, next_statement};
-pub use fault::ReadFault;
-pub use select::{Condition, Select, read_select};
 pub use token::{Kind, Token, Tokens};
 pub use tokens::read_tokens;

@@ -1,16 +1,14 @@
-//! What single tokens say: words, names and literals.
+//! What single tokens say: words and names.
 
-ghost use Rattle.std.specs.Prelude.{◌≡◌, ◌^◌, IfOk, pos};
-ghost use Rattle.std.specs.Option.{option_map};
+ghost use Rattle.std.specs.Prelude.{◌≡◌, IfOk};
 ghost use Rattle.sql_tokens.specs.Parts as spec;
-ghost use Rattle.sql_tokens.specs.Values.{decimal, below};
 
 use crate::lengths::after;
-use crate::reserved::{is_same, reserved};
+use crate::reserved::reserved;
 use crate::token::{Kind, Token};
-use crate::values::{folded, single, value};
+use crate::values::{folded, single};
 use std::alloc::Global;
-use vdb_base::{NoMemory, Text, Value};
+use vdb_base::{NoMemory, Text};
 
 /// The most bytes that a name may have.
 pub const NAME_LIMIT: usize = 64;
@@ -37,16 +35,6 @@ pub fn inner(bytes: &[u8]) -> &[u8]
         rest.split_at(0).0
     } else {
         rest.split_at(bytes.len() - 2).0
-    }
-}
-
-/// Whether a token is a word, which is given in lower case.
-pub fn is_keyword(word: &[u8], kind: Kind, bytes: &[u8]) -> bool
-    ensures { result ≡ spec.is_keyword word.now kind bytes.now }
-{
-    match kind {
-        Kind::Word => is_same(bytes, word),
-        _ => false,
     }
 }
 
@@ -87,53 +75,6 @@ pub fn name_of(alloc: Global, kind: Kind, bytes: &[u8]) -> Result<Option<Text>, 
             let name = single(alloc, b'"', inner(bytes))?;
             Ok(short(folded(alloc, name.as_slice())?))
         }
-        _ => Ok(None),
-    }
-}
-
-/// The value of a numeral, if it has at most 127 bits.
-fn number_of(digits: &[u8]) -> Option<i128>
-    ensures { result ≡ option_map pos (below (2 ^ 127) (decimal 0 digits.now)) }
-{
-    match value(digits) {
-        None => None,
-        Some(number) => {
-            if number < 1 << 127 {
-                Some(number as i128)
-            } else {
-                None
-            }
-        }
-    }
-}
-
-/// The value of a word, if it is TRUE or FALSE.
-fn truth_of(word: &[u8]) -> Option<Value>
-    ensures { result ≡ spec.truth_of word.now }
-{
-    if is_same(word, b"true") {
-        Some(Value::Bool(true))
-    } else if is_same(word, b"false") {
-        Some(Value::Bool(false))
-    } else {
-        None
-    }
-}
-
-/// The value of a literal token, if it is one.
-pub fn literal_of(alloc: Global, kind: Kind, bytes: &[u8]) -> Result<Option<Value>, NoMemory>
-    ensures { IfOk result (λ literal. literal ≡ spec.literal_of kind bytes.now) }
-{
-    match kind {
-        Kind::Numeral => match number_of(bytes) {
-            Some(number) => Ok(Some(Value::Num(number))),
-            None => Ok(None),
-        },
-        Kind::Text => match text_of(single(alloc, b'\'', inner(bytes))?) {
-            Some(text) => Ok(Some(Value::Str(text))),
-            None => Ok(None),
-        },
-        Kind::Word => Ok(truth_of(bytes)),
         _ => Ok(None),
     }
 }

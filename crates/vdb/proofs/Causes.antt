@@ -5,29 +5,25 @@ use Rattle.vdb_base.specs.Feeding.{FeedTold, prepended, IsAtEnd}
 use Rattle.vdb_base.specs.Printing.{SinkTold, Prints}
 use Rattle.vdb_model.specs.declared.reply.DeployFault.{DeployFault}
 use Rattle.vdb_model.specs.declared.reply.Reply.{Reply}
-use Rattle.vdb_model.specs.declared.source.Caps.{Caps}
-use Rattle.vdb_model.specs.declared.table.TableDef.{TableDef}
 use Rattle.vdb_model.specs.Defined.{Defined}
 use Rattle.vdb_model.specs.Rows.{Cells}
-use Rattle.resource.specs.Reading.{Reading}
-use Rattle.resource.specs.Told.{Told, under}
+use Rattle.resource.specs.Told.{Told}
+use Rattle.vdb_session.specs.declared.parts.Parts.{Parts}
+use Rattle.vdb_session.specs.Lanes.{counts}
+use Rattle.vdb_session.specs.Replies.{RepliesToAll, replies_text}
+use Rattle.vdb_session.specs.Script.{script_limit, Piece, statements_of}
+use Rattle.vdb_session.specs.Starting.{IsStartRefusal}
 use Rattle.vdb.specs.declared.answering.Seen.{Seen}
 use Rattle.vdb.specs.declared.ending.Ending.{Ending}
 use Rattle.vdb.specs.declared.ending.Ending.TheVariants as ending
-use Rattle.vdb.specs.declared.parts.Parts.{Parts}
 use Rattle.vdb.specs.declared.words.Setup.{Setup}
-use Rattle.vdb.specs.Script.{script_limit, Piece, statements_of}
-use Rattle.vdb.specs.Deploy.{catalog_of, Deploys}
-use Rattle.vdb.specs.LaneFacts.{world_under}
-use Rattle.vdb.specs.Engine.{lanes_of, counts, cell_fault, DeploysOn, ReadsAs, IsRefused}
-use Rattle.vdb.specs.Answering.{replies_text}
 use Rattle.vdb.specs.Ending.{status_of, last_line}
-use Rattle.vdb.specs.Making.{MakerTold}
-use Rattle.vdb.specs.Running.{connection_of}
+use Rattle.vdb.specs.Making.{MakerTold, AreFor}
 use Rattle.vdb.specs.Words.{setup_of}
-use Rattle.vdb.specs.Headline.{held_world, RepliesToAll, Opens, Quiet, Trace, Ends, AnsweredAll, Misused, Runs, RunsWords, Headline}
-use Rattle.vdb.specs.Causes.{SomeRose, HaveNoForm, AreRefused, IsTooLong, Causes, Given, TellsContents, Refused, Sound, AnswersWhole, AnswersFront, Answers, Complete}
-use Rattle.vdb.proofs.DdlComplete.{one_ddl}
+use Rattle.vdb.specs.Headline.{held_world, world_held, Opens, Quiet, Trace, Ends, AnsweredAll, Misused, Runs, RunsWords, Headline}
+use Rattle.vdb.specs.Causes.{SomeRose, HaveNoForm, AreRefused, IsTooLong, Causes, Given, Refused, Sound, AnswersWhole, AnswersFront, Answers, Complete}
+use Rattle.vdb.proofs.HeldWorld.{world_told}
+use Rattle.vdb.proofs.OneStart.{one_catalog, one_refusal, not_refused, told_refusal}
 use Rattle.vdb.proofs.RunSays.{where-same}
 
 -- the status of a script that was answered whole
@@ -46,10 +42,11 @@ not_four memory refused s q f =
     of_whole (λ s. ⊥) s (λ h. omega (arith, h, f)) (λ h. omega (arith, h, f)) (λ h. omega (arith, h, f)) memory refused q
 
 -- what holds of the held parts with one fault holds of them with some
-where_some : {S F : Type 0} (P : Parts S → F → Type 0) (f : F) (o : Option (Option (Parts S))) → IfSome o (λ held. IfSome held (λ parts. P parts f)) → IfSome o (λ held. IfSome held (λ parts. (f : F) × P parts f))
-where_some P f None h = h
-where_some P f (Some None) h = h
-where_some P f (Some (Some parts)) h = (f, h)
+where_some : {S F : Type 0} (Q : Parts S → Type 0) (P : Parts S → F → Type 0) (f : F) (o : Option (Option (Parts S))) → IfSome o (λ held. IfSome held (λ parts. Q parts × P parts f))
+    → IfSome o (λ held. IfSome held (λ parts. Q parts × ((f : F) × P parts f)))
+where_some Q P f None h = h
+where_some Q P f (Some None) h = h
+where_some Q P f (Some (Some parts)) h = (h.0, (f, h.1))
 
 module _ {S : Type 0} (told : S → Told) (words : List (List ℕ)) (setup : Setup) (form : setup_of words ≡ Ok setup) (old new : MakerTold S) (feed feed' : FeedTold) (status : ℕ) (t : Trace)
     (took : feed.left ≡ prepended t.taken feed'.left) where
@@ -80,7 +77,7 @@ module _ {S : Type 0} (told : S → Told) (words : List (List ℕ)) (setup : Set
   lines_at (ending.Deploy d) true q y = (
     λ f. absurd (omega (arith, q, f)),
     (
-      λ f. (setup, (form, where_some (λ parts d. IsRefused parts.ddl (connection_of setup.conns) (lanes_of told parts) d) d old.held y.2)),
+      λ f. (setup, (form, where_some (AreFor setup) (λ parts d. IsStartRefusal told parts.ddl parts.lanes d) d old.held y.2)),
       λ f. absurd (omega (arith, q, f)),
     ),
   )
@@ -172,57 +169,6 @@ module _ {S : Type 0} (told : S → Told) (words : List (List ℕ)) (old new : M
       line_causes (last_line [] ending.Memory) 5 r.whole (λ f. absurd (other_than status 5 2 r.whole (λ h. omega (arith, h)) (λ h. omega (arith, h)) r.status_is f))
       (λ h. omega (arith, h)) (λ h. omega (arith, h)) (λ h. omega (arith, h)) r.printed r.status_is r.maker r.unread
 
-deploys_same : (ddl connection : List ℕ) (caps : Caps) (c d : Defined) → Deploys ddl connection caps c → Deploys ddl connection caps d → c ≡ d
-deploys_same ddl connection caps c d p q = p.defines ∙ ap (λ x. catalog_of x caps) (one_ddl ddl p.ddl q.ddl p.is q.is) ∙ sym q.defines
-
--- parts deploy as one catalog
-catalogs_same : (ddl connection : List ℕ) (ts : List Told) (c d : Defined) → DeploysOn ddl connection ts c → DeploysOn ddl connection ts d → c ≡ d
-catalogs_same ddl connection [] c d p q = absurd p
-catalogs_same ddl connection (t ∷ []) c d p q = deploys_same ddl connection t.caps c d p q
-catalogs_same ddl connection (t ∷ u ∷ ts) c d p q = absurd p
-
--- what a store tells under definitions, it tells of its contents
-told_at : (o : Option (List TableDef → Reading)) (defs : List TableDef) (w : List (List Cells)) → under o defs ≡ Some w → (reads : List TableDef → Reading) × (o ≡ Some reads)
-told_at None defs w e = (let h : None ≡ Some w = e in cc)
-told_at (Some reads) defs w e = (reads, refl)
-
-tells_of : (ts : List Told) (connection : List ℕ) (cat : Defined) (fault : Option DeployFault) (w : List (List Cells))
-    → ReadsAs connection cat.tables ts fault → world_under cat.tables ts ≡ Some w → TellsContents ts
-tells_of [] connection cat fault w p e = absurd p
-tells_of (t ∷ []) connection cat fault w p e = told_at t.reads cat.tables w e
-tells_of (t ∷ u ∷ ts) connection cat fault w p e = absurd p
-
-module _ (connection : List ℕ) (defs : List TableDef) (a b : Option DeployFault) where
-  read_once : (o : Option (List TableDef → Reading)) (reads : List TableDef → Reading) → o ≡ Some reads
-      → IfSome o (λ reads. cell_fault connection defs (reads defs) ≡ a) → IfSome o (λ reads. cell_fault connection defs (reads defs) ≡ b) → a ≡ b
-  read_once None reads e p q = (let h : None ≡ Some reads = e in cc)
-  read_once (Some reads') reads e p q = sym p ∙ q
-
-  -- told contents read in one way
-  reads_once : (ts : List Told) → ReadsAs connection defs ts a → ReadsAs connection defs ts b → TellsContents ts → a ≡ b
-  reads_once [] p q k = absurd p
-  reads_once (t ∷ []) p q k = read_once t.reads k.0 k.1 p q
-  reads_once (t ∷ u ∷ ts) p q k = absurd p
-
-module _ (ddl connection : List ℕ) (ts : List Told) (tells : TellsContents ts) where
-  -- parts that deploy as one catalog read in one way under it
-  reads_alike : (c d : Defined) (a b : Option DeployFault) → DeploysOn ddl connection ts c → DeploysOn ddl connection ts d
-      → ReadsAs connection c.tables ts a → ReadsAs connection d.tables ts b → a ≡ b
-  reads_alike c d a b p q x y =
-      reads_once connection d.tables a b ts (subst (λ (c : Defined). ReadsAs connection c.tables ts a) (catalogs_same ddl connection ts c d p q) x) y tells
-
-  -- what opens isn't refused
-  not_refused : (cat : Defined) (f : DeployFault) → DeploysOn ddl connection ts cat → ReadsAs connection cat.tables ts None → IsRefused ddl connection ts f → ⊥
-  not_refused cat f d p (inl r) = r.none cat d
-  not_refused cat f d p (inr r) = (let h : None ≡ Some f = reads_alike cat r.cat None (Some f) d r.deploys p r.reads in cc)
-
-  -- there is one refusal
-  refused_once : (f g : DeployFault) → IsRefused ddl connection ts f → IsRefused ddl connection ts g → f ≡ g
-  refused_once f g (inl p) (inl q) = p.fault ∙ sym q.fault
-  refused_once f g (inl p) (inr q) = absurd (p.none q.cat q.deploys)
-  refused_once f g (inr p) (inl q) = absurd (q.none p.cat p.deploys)
-  refused_once f g (inr p) (inr q) = (let h : Some f ≡ Some g = reads_alike p.cat q.cat (Some f) (Some g) p.deploys q.deploys p.reads q.reads in cc)
-
 -- no more is taken than there is
 at_most : (taken script : List ℕ) (left rest : Option (List ℕ)) → left ≡ prepended taken rest → left ≡ Some script → length taken ≤ length script
 at_most taken script left None t e = (let h : None ≡ Some script = sym t ∙ e in cc)
@@ -269,12 +215,12 @@ module _ {S : Type 0} (told : S → Told) (setup : Setup) (old new : MakerTold S
   abbrev Printed : Ending → Bool → Type 0
   Printed e whole = Prints whole out out' (replies_text t.replies ++ last_line setup.conns e)
 
-  module _ (f : DeployFault) (refused : Refused told setup parts f) where
+  module _ (f : DeployFault) (refused : Refused told parts f) where
     abbrev Line : Type 0
     Line = Prints true out out' (last_line [] (ending.Deploy f)) × ((status ≡ 3) × (feed' ≡ feed))
 
-    no_opening : (cat : Defined) → Opens told setup cat parts → Line
-    no_opening cat o = absurd (not_refused parts.ddl (connection_of setup.conns) (lanes_of told parts) refused.tells cat f o.deploys o.reads refused.why)
+    no_opening : (cat : Defined) → Opens told cat parts → Line
+    no_opening cat o = absurd (not_refused told parts cat f o.deploys o.reads refused)
 
     deploy_line_at : (g : DeployFault) → f ≡ g → t.replies ≡ [] → Printed (ending.Deploy g) true → Prints true out out' (last_line [] (ending.Deploy f))
     deploy_line_at g e n p = subst (λ (g : DeployFault). Prints true out out' (last_line [] (ending.Deploy g))) (sym e) (subst (λ (rs : List Reply). Prints true out out' (replies_text rs ++ last_line setup.conns (ending.Deploy g))) n p)
@@ -285,46 +231,54 @@ module _ {S : Type 0} (told : S → Told) (setup : Setup) (old new : MakerTold S
     deploy_at ending.MakerFailed true p q y = absurd (n4 q)
     deploy_at ending.Memory true p q y = absurd (n5 q)
     deploy_at (ending.Deploy g) true p q y =
-        let e = refused_once parts.ddl (connection_of setup.conns) (lanes_of told parts) refused.tells f g refused.why (held_at (λ parts. IsRefused parts.ddl (connection_of setup.conns) (lanes_of told parts) g) y.2) in
+        let e = one_refusal told parts f g refused (held_at (λ parts. AreFor setup parts × IsStartRefusal told parts.ddl parts.lanes g) y.2).1 in
         (deploy_line_at g e y.1.none p, (q, y.1.unread))
     deploy_at (ending.LaneFailed lane) true p q y = absurd (n4 q)
     deploy_at ending.FeedFailed true p q y = absurd (n4 q)
     deploy_at ending.SinkFailed true p q y = absurd (n4 q)
-    deploy_at ending.TooLong true p q y = no_opening t.cat (held_at (Opens told setup t.cat) y.2.opens)
-    deploy_at (ending.Whole seen) true p q y = no_opening t.cat (held_at (Opens told setup t.cat) y.4.opens)
+    deploy_at ending.TooLong true p q y = no_opening t.cat (held_at (Opens told t.cat) y.2.opens)
+    deploy_at (ending.Whole seen) true p q y = no_opening t.cat (held_at (Opens told t.cat) y.4.opens)
 
-  module _ (s : Sound told setup parts feed) (world_is : t.world ≡ held_world told t.cat.tables old.held) (took : feed.left ≡ prepended t.taken feed'.left) where
-    tells : TellsContents (lanes_of told parts)
-    tells = tells_of (lanes_of told parts) (connection_of setup.conns) s.cat None s.world s.opens.reads s.tells
+  module _ (s : Sound told parts feed) (world_is : t.world ≡ held_world told t.cat old.held) (took : feed.left ≡ prepended t.taken feed'.left) where
+    -- the world that the parts hold
+    abbrev world : List (List Cells)
+    world = (world_told told s.cat parts s.tells s.opens).0
 
-    -- the replies are those over what the parts define and tell
-    replies_at : (pieces : List Piece) → AnsweredAll told setup old t pieces → RepliesToAll s.cat (Some s.world) pieces t.replies
+    holds_it : world_held told s.cat parts ≡ Some world
+    holds_it = (world_told told s.cat parts s.tells s.opens).1
+
+    -- the replies are those over what the parts define and hold
+    replies_at : (pieces : List Piece) → AnsweredAll told setup old t pieces → RepliesToAll s.cat (Some world) pieces t.replies
     replies_at pieces y =
-        let c : t.cat ≡ s.cat = catalogs_same parts.ddl (connection_of setup.conns) (lanes_of told parts) t.cat s.cat (held_at (Opens told setup t.cat) y.opens).deploys s.opens.deploys in
-        let v : t.world ≡ Some s.world = world_is ∙ ap (held_world told t.cat.tables) held ∙ ap (λ (d : Defined). world_under d.tables (lanes_of told parts)) c ∙ s.tells in
-        subst (λ (d : Defined). RepliesToAll d (Some s.world) pieces t.replies) c (subst (λ (v : Option (List (List Cells))). RepliesToAll t.cat v pieces t.replies) v y.replies)
+        let c : t.cat ≡ s.cat = one_catalog told parts.ddl parts.lanes t.cat s.cat (held_at (Opens told t.cat) y.opens).deploys s.opens.deploys in
+        let v : t.world ≡ Some world = world_is ∙ ap (held_world told t.cat) held ∙ ap (λ (d : Defined). world_held told d parts) c ∙ holds_it in
+        subst (λ (d : Defined). RepliesToAll d (Some world) pieces t.replies) c (subst (λ (v : Option (List (List Cells))). RepliesToAll t.cat v pieces t.replies) v y.replies)
 
     whole_at : (seen : Seen) → Printed (ending.Whole seen) true → status ≡ whole_status seen.memory seen.refused → Ends told setup old new feed feed' t (ending.Whole seen)
-        → AnswersWhole s.cat s.world s.script out out' status
+        → AnswersWhole told s.cat parts s.script out out' status
     whole_at seen p q y = record {
+      world = world;
+      holds_it = holds_it;
       replies = t.replies;
-      each = subst (λ (bs : List ℕ). RepliesToAll s.cat (Some s.world) (statements_of bs true) t.replies) (all_taken t.taken s.script feed.left feed'.left took s.input y.2) (replies_at (statements_of t.taken true) y.4);
+      each = subst (λ (bs : List ℕ). RepliesToAll s.cat (Some world) (statements_of bs true) t.replies) (all_taken t.taken s.script feed.left feed'.left took s.input y.2) (replies_at (statements_of t.taken true) y.4);
       printed = subst (λ (text : List ℕ). Prints true out out' text) (append-nil (replies_text t.replies)) p;
       no_memory = ap (λ (x : Seen). x.memory) (sym y.3) ∙ no_memory_in seen.memory seen.refused status q n5;
       status_is = status_in seen.memory seen.refused status q n5 ∙ ap (λ (x : Seen). if x.refused then 1 else 0) y.3;
     }
 
-    front_at : Printed ending.TooLong true → status ≡ 6 → Ends told setup old new feed feed' t ending.TooLong → AnswersFront s.cat s.world s.script out out' status
+    front_at : Printed ending.TooLong true → status ≡ 6 → Ends told setup old new feed feed' t ending.TooLong → AnswersFront told s.cat parts s.script out out' status
     front_at p q y = record {
+      world = world;
+      holds_it = holds_it;
       replies = t.replies;
-      each = subst (λ (bs : List ℕ). RepliesToAll s.cat (Some s.world) (statements_of bs false) t.replies) (same_front t.taken s.script feed.left feed'.left script_limit took s.input (omega (arith, y.1))) (replies_at (statements_of (take script_limit t.taken) false) y.2);
+      each = subst (λ (bs : List ℕ). RepliesToAll s.cat (Some world) (statements_of bs false) t.replies) (same_front t.taken s.script feed.left feed'.left script_limit took s.input (omega (arith, y.1))) (replies_at (statements_of (take script_limit t.taken) false) y.2);
       printed = p;
       status_is = q;
     }
 
     -- a script is answered whole, or up to the limit
     abbrev Answered : Type 0
-    Answered = (length s.script ≤ script_limit → AnswersWhole s.cat s.world s.script out out' status) × (script_limit < length s.script → AnswersFront s.cat s.world s.script out out' status)
+    Answered = (length s.script ≤ script_limit → AnswersWhole told s.cat parts s.script out out' status) × (script_limit < length s.script → AnswersFront told s.cat parts s.script out out' status)
 
     answered_at : (e : Ending) (whole : Bool) → Printed e whole → status ≡ (if whole then status_of e else 4) → Ends told setup old new feed feed' t e → Answered
     answered_at e false p q y = absurd (n4 q)
@@ -332,8 +286,8 @@ module _ {S : Type 0} (told : S → Told) (setup : Setup) (old new : MakerTold S
     answered_at ending.MakerFailed true p q y = absurd (n4 q)
     answered_at ending.Memory true p q y = absurd (n5 q)
     answered_at (ending.Deploy f) true p q y =
-        absurd (not_refused parts.ddl (connection_of setup.conns) (lanes_of told parts) tells s.cat f s.opens.deploys s.opens.reads
-        (held_at (λ parts. IsRefused parts.ddl (connection_of setup.conns) (lanes_of told parts) f) y.2))
+        absurd (not_refused told parts s.cat f s.opens.deploys s.opens.reads
+        (told_refusal told parts f s.tells (held_at (λ parts. AreFor setup parts × IsStartRefusal told parts.ddl parts.lanes f) y.2).1))
     answered_at (ending.LaneFailed lane) true p q y = absurd (n4 q)
     answered_at ending.FeedFailed true p q y = absurd (n4 q)
     answered_at ending.SinkFailed true p q y = absurd (n4 q)
@@ -360,8 +314,8 @@ module _ {S : Type 0} (told : S → Told) (words : List (List ℕ)) (old new : M
   misused_at word form (inl r) = (let m : Misused word old new feed feed' out out' status = subst (λ (x : Result Setup ℕ). RunsWords told x old new feed feed' out out' status) form r in usage_line word m.whole m.printed m.status_is)
   misused_at word form (inr r) = absurd (unstarved r.whole r.status_is)
 
-  answered_by : (given : Given told words old) (s : Sound told given.setup given.parts feed) → Runs told given.setup old new feed feed' out out' status
-      → (length s.script ≤ script_limit → AnswersWhole s.cat s.world s.script out out' status) × (script_limit < length s.script → AnswersFront s.cat s.world s.script out out' status)
+  answered_by : (given : Given told words old) (s : Sound told given.parts feed) → Runs told given.setup old new feed feed' out out' status
+      → (length s.script ≤ script_limit → AnswersWhole told s.cat given.parts s.script out out' status) × (script_limit < length s.script → AnswersFront told s.cat given.parts s.script out out' status)
   answered_by given s r = answered_at told given.setup old new feed feed' out out' status r.trace given.parts given.held n4 n5 s r.world_is r.took r.end r.whole r.printed r.status_is r.ends
 
   answers_from : Headline told words old new feed feed' out out' status → Answers told words old feed feed' out out' status

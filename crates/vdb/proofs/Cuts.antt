@@ -1,9 +1,11 @@
 -- Words that are cut at a mark.
-use Rattle.std.proofs.Common.{◌≡◌, ◌≢◌, ℕ, ◌+◌, ◌<◌, ◌==◌, false, List, [], ◌∷◌, ◌++◌, length, get_or, Some, None, refl, ap, arith}
+use Rattle.std.proofs.Common.{◌≡◌, ◌≢◌, ℕ, ◌+◌, ◌<◌, ◌==◌, true, false, List, [], ◌∷◌, ◌++◌, length, get_or, Some, None, refl, ap, arith}
 use Rattle.std.proofs.lemmas.Bool.Decides.{nat_tests}
 use Rattle.std.proofs.lemmas.Grind.{common_steps}
 use Rattle.vdb.specs.Words.{begin_with, split_at_byte}
-use Rattle.vdb.proofs.SameNames.{same_test}
+
+same_test : (n : ℕ) → (n == n) ≡ true
+same_test n = grind (arith, nat_tests)
 
 -- no byte is the mark
 abbrev pub Lacks : ℕ → List ℕ → Type 0

@@ -8,30 +8,31 @@ use Rattle.vdb_model.specs.declared.reply.Reply.TheVariants as reply
 use Rattle.vdb_model.specs.Defined.{Defined, nothing_defined}
 use Rattle.vdb_model.specs.Rows.{Cells}
 use Rattle.resource.specs.Told.{Told}
+use Rattle.vdb_session.specs.declared.parts.Opened.{Opened}
+use Rattle.vdb_session.specs.declared.parts.Parts.{Parts}
+use Rattle.vdb_session.specs.declared.parts.StartFault.{StartFault}
+use Rattle.vdb_session.specs.declared.parts.StartFault.TheVariants as fault
+use Rattle.vdb_session.specs.Answer.{world_of}
+use Rattle.vdb_session.specs.Lanes.{LaneCounts, RoseAt, counts}
+use Rattle.vdb_session.specs.Meaning.{Done}
+use Rattle.vdb_session.specs.Replies.{Replies, RepliesToAll, replies_text}
+use Rattle.vdb_session.specs.Script.{Piece, statements_of}
+use Rattle.vdb_session.specs.Starting.{failed_lane, IsStartRefusal, HasReason, Started}
 use Rattle.vdb.specs.declared.answering.Answers.{Answers}
 use Rattle.vdb.specs.declared.answering.Answers.TheVariants as answers
 use Rattle.vdb.specs.declared.answering.Seen.{Seen}
 use Rattle.vdb.specs.declared.ending.Ending.{Ending}
-use Rattle.vdb.specs.declared.parts.Opened.{Opened}
-use Rattle.vdb.specs.declared.parts.Parts.{Parts}
-use Rattle.vdb.specs.declared.parts.StartFault.{StartFault}
-use Rattle.vdb.specs.declared.parts.StartFault.TheVariants as fault
 use Rattle.vdb.specs.declared.reading.ReadEnd.{ReadEnd}
 use Rattle.vdb.specs.declared.reading.ReadEnd.TheVariants as end
 use Rattle.vdb.specs.declared.reading.TheConstants.{SCRIPT_LIMIT}
 use Rattle.vdb.specs.declared.words.Setup.{Setup}
-use Rattle.vdb.specs.Script.{Piece, statements_of}
-use Rattle.vdb.specs.Meaning.{Done}
-use Rattle.vdb.specs.LaneFacts.{LaneCounts, RoseAt, world_under}
-use Rattle.vdb.specs.Engine.{lanes_of, counts, IsRefused, start_failed, StartRefuses, Started}
-use Rattle.vdb.specs.Answer.{world_of}
-use Rattle.vdb.specs.Answering.{RepliesAll, replies_text, Answered, IsAnswered}
+use Rattle.vdb.specs.Answering.{RepliesAll, Answered, IsAnswered}
 use Rattle.vdb.specs.Reading.{Reads}
 use Rattle.vdb.specs.Ending.{start_ending, ending_of}
-use Rattle.vdb.specs.Making.{MakerTold, Takes, GivesBack}
+use Rattle.vdb.specs.Making.{MakerTold, Takes, GivesBack, AreFor}
 use Rattle.vdb.specs.Session.{pieces_read}
-use Rattle.vdb.specs.Running.{connection_of, IsMadeRun, IsRun}
-use Rattle.vdb.specs.Headline.{held_world, Replies, RepliesToAll, Opens, AnsweredAll, Quiet, Ends}
+use Rattle.vdb.specs.Running.{IsMadeRun, IsRun}
+use Rattle.vdb.specs.Headline.{held_world, world_held, Opens, AnsweredAll, Quiet, Ends}
 use Rattle.vdb.proofs.RunSays.{is_sink, trace_of, Says, Says-nothing, Says-not_made, Stays-trans, engine-stays, where-held, where-both, held-again, lane-rose}
 
 -- replies over rows that are told are replies over rows that are not
@@ -54,10 +55,10 @@ RepliesAll-untold cat w (p ∷ ps) (r ∷ rs) d = (Done-untold cat w p r d.0, Re
 
 -- replies over the rows of parts that were made are replies over those that are told
 RepliesAll-held : {S : Type 0} (told : S → Told) (cat : Defined) (w : Option (List (List Cells))) (o mid : Option (Option (Parts S))) (parts : Parts S) (ps : List Piece) (rs : List Reply)
-    → Takes o mid parts → w ≡ world_under cat.tables (lanes_of told parts) → RepliesAll cat w ps rs → RepliesAll cat (held_world told cat.tables o) ps rs
+    → Takes o mid parts → w ≡ world_held told cat parts → RepliesAll cat w ps rs → RepliesAll cat (held_world told cat o) ps rs
 RepliesAll-held told cat w None mid parts ps rs t e d = RepliesAll-untold cat w ps rs d
 RepliesAll-held told cat w (Some h) mid parts ps rs t e d =
-    subst (λ (h : Option (Parts _)). RepliesAll cat (held_world told cat.tables (Some h)) ps rs) (sym t.0) (subst (λ (w : Option (List (List Cells))). RepliesAll cat w ps rs) e d)
+    subst (λ (h : Option (Parts _)). RepliesAll cat (held_world told cat (Some h)) ps rs) (sym t.0) (subst (λ (w : Option (List (List Cells))). RepliesAll cat w ps rs) e d)
 
 Replies-first : (cat : Defined) (w : Option (List (List Cells))) (ps left : List Piece) (rs : List Reply) → RepliesAll cat w ps rs → Replies cat w (ps ++ left) rs
 Replies-first cat w [] left [] d = tt
@@ -99,22 +100,22 @@ read-replies cat w feed feed' taken bytes end.Memory rs r d = Replies-none cat w
 
 module _ {S : Type 0} (told : S → Told) (setup : Setup) (old new mid : MakerTold S) (feed feed' : FeedTold) (out out' : SinkTold) (parts : Parts S) where
   -- the start was refused
-  refused-ends : (after : Parts S) (f : StartFault) → Takes old.held mid.held parts → GivesBack mid.held new.held after → new.faults ≡ old.faults → feed' ≡ feed
-      → LaneCounts (start_failed f) (counts told parts) (counts told after) → StartRefuses parts.ddl (connection_of setup.conns) (lanes_of told parts) f
+  refused-ends : (after : Parts S) (f : StartFault) → AreFor setup parts → Takes old.held mid.held parts → GivesBack mid.held new.held after → new.faults ≡ old.faults → feed' ≡ feed
+      → LaneCounts (failed_lane f) (counts told parts) (counts told after) → HasReason told parts.ddl parts.lanes f
       → Ends told setup old new feed feed' (trace_of told old nothing_defined [] []) (start_ending f)
-  refused-ends after (fault.Refused d) t g n e c r = (
+  refused-ends after (fault.Refused d) l t g n e c r = (
     record { maker = n; feed_stays = ap (λ (x : FeedTold). x.faults) e; lanes = where-both old.held mid.held new.held parts after (λ p q. counts told q ≡ counts told p) t g c },
     record { unread = e; none = refl },
-    where-held old.held mid.held parts (λ p. IsRefused p.ddl (connection_of setup.conns) (lanes_of told p) d) t r,
+    where-held old.held mid.held parts (λ p. AreFor setup p × IsStartRefusal told p.ddl p.lanes d) t (l, r),
   )
-  refused-ends after (fault.Failed lane) t g n e c r = (n, lane-rose told lane old.held mid.held new.held parts after t g c)
-  refused-ends after fault.Memory t g n e c r =
+  refused-ends after (fault.Failed lane) l t g n e c r = (n, lane-rose told lane old.held mid.held new.held parts after t g c)
+  refused-ends after fault.Memory l t g n e c r =
       record { maker = n; feed_stays = ap (λ (x : FeedTold). x.faults) e; lanes = where-both old.held mid.held new.held parts after (λ p q. counts told q ≡ counts told p) t g c }
 
-  module _ (started after : Opened S) (t : Takes old.held mid.held parts) (g : GivesBack mid.held new.held after.parts) (n : new.faults ≡ old.faults)
-      (s : Started told (connection_of setup.conns) parts started) (bytes taken : List ℕ) where
+  module _ (started after : Opened S) (l : AreFor setup parts) (t : Takes old.held mid.held parts) (g : GivesBack mid.held new.held after.parts) (n : new.faults ≡ old.faults)
+      (s : Started told parts started) (bytes taken : List ℕ) where
     -- the replies, over the rows that are told
-    all-held : (ps : List Piece) (rs : List Reply) → RepliesAll started.catalog (world_of told started) ps rs → RepliesAll started.catalog (held_world told started.catalog.tables old.held) ps rs
+    all-held : (ps : List Piece) (rs : List Reply) → RepliesAll started.catalog (world_of told started) ps rs → RepliesAll started.catalog (held_world told started.catalog old.held) ps rs
     all-held ps rs d = RepliesAll-held told started.catalog (world_of told started) old.held mid.held parts ps rs t s.world d
 
     quiet : feed'.faults ≡ feed.faults → counts told after.parts ≡ counts told started.parts → Quiet told old new feed feed'
@@ -124,9 +125,10 @@ module _ {S : Type 0} (told : S → Told) (setup : Setup) (old new mid : MakerTo
     all-answered : (ps : List Piece) (seen : Seen) (a : Answered told ps [] started after out out' true None seen) → AnsweredAll told setup old (trace_of told old started.catalog taken a.replies) ps
     all-answered ps seen a =
         let cat = started.catalog in
-        let w = held_world told cat.tables old.held in
+        let w = held_world told cat old.held in
         record {
-          opens = where-held old.held mid.held parts (Opens told setup cat) t record { deploys = s.deploys; reads = s.reads };
+          made = where-held old.held mid.held parts (AreFor setup) t l;
+          opens = where-held old.held mid.held parts (Opens told cat) t record { deploys = s.deploys; reads = s.reads };
           replies = subst (λ (ps : List Piece). RepliesToAll cat w ps a.replies) (sym (append-nil a.first) ∙ sym a.split) (Replies-all cat w a.first a.replies (all-held a.first a.replies a.each));
         }
 
@@ -137,7 +139,7 @@ module _ {S : Type 0} (told : S → Told) (setup : Setup) (old new mid : MakerTo
         → Ends told setup old new feed feed' (trace_of told old started.catalog taken a.replies) e → Says told setup old new feed feed' out out' e
     answered-says read some whole f seen e took r a k y =
         let cat = started.catalog in
-        let w = held_world told cat.tables old.held in
+        let w = held_world told cat old.held in
         record {
           cat = cat;
           taken = taken;
@@ -154,8 +156,8 @@ module _ {S : Type 0} (told : S → Told) (setup : Setup) (old new mid : MakerTo
     script-says : (read : ReadEnd) (answers : Answers) → feed.left ≡ prepended taken feed'.left → Reads feed feed' taken bytes read
         → IsAnswered told (pieces_read bytes read) started after out out' answers → Says told setup old new feed feed' out out' (ending_of read answers)
     script-says read (answers.LaneFailed lane) took r a =
-        answered-says read a.1 true (Some lane) a.2 _ took r a.3 refl
-        (n, lane-rose told lane old.held mid.held new.held parts after.parts t g (subst (λ (ns : List ℕ). RoseAt lane ns (counts told after.parts)) s.counts_stay a.3.lanes))
+        answered-says read a.0 true (Some lane) a.1 _ took r a.2 refl
+        (n, lane-rose told lane old.held mid.held new.held parts after.parts t g (subst (λ (ns : List ℕ). RoseAt lane ns (counts told after.parts)) s.counts_stay a.2.lanes))
     script-says read answers.SinkFailed took r a = answered-says read a.0 false None a.1 _ took r a.2 refl n
     script-says end.Whole (answers.Whole seen) took r a =
         answered-says end.Whole [] true None seen _ took r a refl (
@@ -189,12 +191,12 @@ Says-made told setup old new feed feed' out out' e r =
           let g : GivesBack r.mid.held new.held s.refused.parts = subst (λ (p : Parts _). GivesBack r.mid.held new.held p) s.parts r.keeps.0 in
           subst (λ (e : Ending). Says told setup old new feed feed' out out' e) (sym s.ending_is)
           (Says-nothing told setup old new feed feed' out out' (start_ending s.refused.fault) s.unread s.silent (start-no_sink s.refused.fault)
-          (refused-ends told setup old new r.mid feed feed' out out' r.parts s.refused.parts s.refused.fault r.made.takes g n s.unread s.start.lanes s.start.why)
+          (refused-ends told setup old new r.mid feed feed' out out' r.parts s.refused.parts s.refused.fault r.made.are_for r.made.takes g n s.unread s.start.lanes s.start.why)
           (held-again told old.held r.mid.held new.held r.parts s.refused.parts r.made.takes g s.start.stays))
       | inr s ↦
           let g : GivesBack r.mid.held new.held s.after.parts = subst (λ (p : Parts _). GivesBack r.mid.held new.held p) s.parts r.keeps.0 in
           subst (λ (e : Ending). Says told setup old new feed feed' out out' e) (sym s.run.ending_is)
-          (script-says told setup old new r.mid feed feed' out out' r.parts s.started s.after r.made.takes g n s.start s.run.bytes s.run.is_read.taken
+          (script-says told setup old new r.mid feed feed' out out' r.parts s.started s.after r.made.are_for r.made.takes g n s.start s.run.bytes s.run.is_read.taken
           s.run.read s.run.answers s.run.is_read.took s.run.is_read.ends s.run.is_answered)
     ]
 

@@ -7,13 +7,13 @@ use Rattle.vdb_base.specs.Feeding.{FeedTold}
 use Rattle.vdb_base.specs.Printing.{SinkTold, appended, Prints}
 use Rattle.vdb_base.proofs.Writing.{Prints-append, appended-nil}
 use Rattle.resource.specs.Told.{Told}
+use Rattle.vdb_session.specs.Replies.{replies_text}
 use Rattle.vdb.specs.declared.ending.Ending.{Ending}
 use Rattle.vdb.specs.declared.ending.Ending.TheVariants as ending
 use Rattle.vdb.specs.declared.words.Conn.{Conn}
 use Rattle.vdb.specs.declared.words.Setup.{Setup}
 use Rattle.vdb.specs.declared.words.WordsFault.{WordsFault}
 use Rattle.vdb.specs.declared.words.WordsFault.TheVariants as fault
-use Rattle.vdb.specs.Answering.{replies_text}
 use Rattle.vdb.specs.Ending.{last_line, status_of}
 use Rattle.vdb.specs.Making.{MakerTold}
 use Rattle.vdb.specs.Running.{IsRun, Finishes, words_ending}

@@ -6,20 +6,19 @@ use Rattle.vdb_base.proofs.Writing.{Prints-nil}
 use Rattle.vdb_model.specs.declared.reply.Reply.{Reply}
 use Rattle.vdb_model.specs.Defined.{Defined, nothing_defined}
 use Rattle.resource.specs.Told.{Told}
+use Rattle.vdb_session.specs.declared.parts.Opened.{Opened}
+use Rattle.vdb_session.specs.declared.parts.Parts.{Parts}
+use Rattle.vdb_session.specs.Answer.{EngineStays}
+use Rattle.vdb_session.specs.Lanes.{RoseAt, Stays, attached, store, lanes_of, counts}
+use Rattle.vdb_session.specs.Replies.{Replies, replies_text}
+use Rattle.vdb_session.specs.Script.{statements_of}
 use Rattle.vdb.specs.declared.ending.Ending.{Ending}
 use Rattle.vdb.specs.declared.ending.Ending.TheVariants as ending
-use Rattle.vdb.specs.declared.parts.Parts.{Parts}
 use Rattle.vdb.specs.declared.reading.TheConstants.{SCRIPT_LIMIT}
 use Rattle.vdb.specs.declared.words.Setup.{Setup}
-use Rattle.vdb.specs.Script.{statements_of}
-use Rattle.vdb.specs.LaneFacts.{RoseAt, attached, store}
-use Rattle.vdb.specs.Engine.{lanes_of, counts, Stays}
-use Rattle.vdb.specs.Answer.{EngineStays}
-use Rattle.vdb.specs.Answering.{replies_text}
-use Rattle.vdb.specs.declared.parts.Opened.{Opened}
 use Rattle.vdb.specs.Making.{MakerTold, Takes, GivesBack}
 use Rattle.vdb.specs.Running.{IsNotMade}
-use Rattle.vdb.specs.Headline.{HeldAgain, LaneRose, held_world, Replies, Trace, Ends}
+use Rattle.vdb.specs.Headline.{HeldAgain, LaneRose, held_world, Trace, Ends}
 
 abbrev pub is_sink : Ending → Bool
 is_sink ending.SinkFailed = true
@@ -27,7 +26,7 @@ is_sink e = false
 
 -- what was taken and replied, over what is defined
 abbrev pub trace_of : {S : Type 0} → (S → Told) → MakerTold S → Defined → List ℕ → List Reply → Trace
-trace_of told old cat taken replies = record { taken = taken; cat = cat; world = held_world told cat.tables old.held; replies = replies }
+trace_of told old cat taken replies = record { taken = taken; cat = cat; world = held_world told cat old.held; replies = replies }
 
 -- what a run says: what it took, replied and printed, and why it ended so
 pub record Says {S : Type 0} (told : S → Told) (setup : Setup) (old new : MakerTold S) (feed feed' : FeedTold) (out out' : SinkTold) (e : Ending) : Type 0 where
@@ -36,7 +35,7 @@ pub record Says {S : Type 0} (told : S → Told) (setup : Setup) (old new : Make
   pub replies : List Reply
   pub ended : Bool
   pub took : feed.left ≡ prepended taken feed'.left
-  pub each : Replies cat (held_world told cat.tables old.held) (statements_of (take SCRIPT_LIMIT taken) ended) replies
+  pub each : Replies cat (held_world told cat old.held) (statements_of (take SCRIPT_LIMIT taken) ended) replies
   pub printed : Prints (not (is_sink e)) out out' (replies_text replies)
   pub ends : Ends told setup old new feed feed' (trace_of told old cat taken replies) e
   pub kept : HeldAgain told old.held new.held

@@ -6,7 +6,7 @@ use Rattle.sql_tokens.specs.declared.cut.Found.TheVariants.{Statement, More, End
 use Rattle.sql_tokens.specs.Tokens.{tokens_from}
 use Rattle.sql_tokens.specs.Cut.{found, statement, cuts, cut_after}
 use Rattle.sql_tokens.proofs.Turns.{found_in_turn}
-use Rattle.vdb.specs.Script.{part, pieces, statements_from}
+use Rattle.vdb_session.specs.Script.{part, pieces, statements_from}
 
 abbrev is_statement : Found → Bool
 is_statement (Statement start end next) = true

@@ -12,12 +12,12 @@ use Rattle.vdb.specs.declared.answering.Step.{Step}
 use Rattle.vdb.specs.declared.answering.Step.TheVariants as step
 use Rattle.vdb.specs.declared.answering.Answers.{Answers}
 use Rattle.vdb.specs.declared.answering.Answers.TheVariants as answers
-use Rattle.vdb.specs.declared.parts.Opened.{Opened}
-use Rattle.vdb.specs.Script.{Piece}
-use Rattle.vdb.specs.Meaning.{Done}
-use Rattle.vdb.specs.LaneFacts.{LaneCounts}
-use Rattle.vdb.specs.Engine.{counts}
-use Rattle.vdb.specs.Answer.{world_of, EngineStays}
+use Rattle.vdb_session.specs.declared.parts.Opened.{Opened}
+use Rattle.vdb_session.specs.Answer.{world_of, EngineStays}
+use Rattle.vdb_session.specs.Lanes.{LaneCounts, counts}
+use Rattle.vdb_session.specs.Meaning.{Done}
+use Rattle.vdb_session.specs.Replies.{replies_text}
+use Rattle.vdb_session.specs.Script.{Piece}
 
 -- what was seen, after one more reply
 abbrev pub noted : Seen → Reply → Seen
@@ -38,11 +38,6 @@ nothing_seen = record { refused = false; memory = false }
 abbrev pub seen_in : List Reply → Seen
 seen_in replies = fold noted nothing_seen replies
 
--- the lines of the replies, in turn
-abbrev pub replies_text : List Reply → List ℕ
-replies_text [] = []
-replies_text (r ∷ rs) = reply_text r ++ replies_text rs
-
 -- one reply to each of these statements
 abbrev pub RepliesAll : Defined → Option (List (List Cells)) → List Piece → List Reply → Type 0
 RepliesAll cat world [] [] = ⊤
@@ -62,7 +57,6 @@ pub record LaneFails {S : Type 0} (told : S → Told) (old new : Opened S) (befo
   pub silent : after ≡ before
   pub stays : EngineStays told old new
   pub rose : LaneCounts (Some lane) (counts told old.parts) (counts told new.parts)
-  pub first : lane ≡ 0
 
 -- what one statement leaves
 abbrev pub AnswersOne : {S : Type 0} → (S → Told) → Piece → Opened S → Opened S → SinkTold → SinkTold → Seen → Step → Type 0
@@ -85,5 +79,5 @@ pub record Answered {S : Type 0} (told : S → Told) (all left : List Piece) (ol
 -- how the answering of all ended
 abbrev pub IsAnswered : {S : Type 0} → (S → Told) → List Piece → Opened S → Opened S → SinkTold → SinkTold → Answers → Type 0
 IsAnswered told all old new before after (answers.Whole seen) = Answered told all [] old new before after true None seen
-IsAnswered told all old new before after (answers.LaneFailed lane) = (lane ≡ 0) × (left : List Piece) × (seen : Seen) × Answered told all left old new before after true (Some lane) seen
+IsAnswered told all old new before after (answers.LaneFailed lane) = (left : List Piece) × (seen : Seen) × Answered told all left old new before after true (Some lane) seen
 IsAnswered told all old new before after answers.SinkFailed = (left : List Piece) × (seen : Seen) × Answered told all left old new before after false None seen

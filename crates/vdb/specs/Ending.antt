@@ -7,8 +7,8 @@ use Rattle.vdb_model.specs.NameText.{name_text}
 use Rattle.vdb_model.specs.FaultText.{deploy_line, fault_line}
 use Rattle.vdb.specs.declared.answering.Answers.{Answers}
 use Rattle.vdb.specs.declared.answering.Answers.TheVariants as answers
-use Rattle.vdb.specs.declared.parts.StartFault.{StartFault}
-use Rattle.vdb.specs.declared.parts.StartFault.TheVariants as fault
+use Rattle.vdb_session.specs.declared.parts.StartFault.{StartFault}
+use Rattle.vdb_session.specs.declared.parts.StartFault.TheVariants as fault
 use Rattle.vdb.specs.declared.reading.ReadEnd.{ReadEnd}
 use Rattle.vdb.specs.declared.reading.ReadEnd.TheVariants as end
 use Rattle.vdb.specs.declared.ending.Ending.{Ending}

@@ -1,25 +1,24 @@
 -- What a run of the program prints and answers, over what it was handed.
-use Rattle.std.specs.Prelude.{◌≡◌, ◌⊎◌, ℕ, ◌+◌, ◌≤◌, Bool, true, false, if◌then◌else◌, List, [], ◌∷◌, ◌++◌, length, take, Option, Some, None, Result, Ok, Err, IfSome, ⊤}
+use Rattle.std.specs.Prelude.{◌≡◌, ◌⊎◌, ℕ, ◌+◌, ◌≤◌, Bool, true, false, if◌then◌else◌, List, [], ◌++◌, length, take, All, Option, Some, None, Result, Ok, Err, IfSome, ⊤}
 use Rattle.vdb_base.specs.Counts.{Rose}
 use Rattle.vdb_base.specs.Feeding.{FeedTold, prepended, IsAtEnd}
 use Rattle.vdb_base.specs.Printing.{SinkTold, Prints}
 use Rattle.vdb_model.specs.declared.reply.Reply.{Reply}
-use Rattle.vdb_model.specs.declared.table.TableDef.{TableDef}
 use Rattle.vdb_model.specs.Defined.{Defined}
 use Rattle.vdb_model.specs.Rows.{Cells}
 use Rattle.resource.specs.Told.{Told}
+use Rattle.vdb_session.specs.declared.parts.Parts.{Parts}
+use Rattle.vdb_session.specs.Lanes.{RoseAt, Stays, counts}
+use Rattle.vdb_session.specs.Replies.{Replies, RepliesToAll, replies_text}
+use Rattle.vdb_session.specs.Script.{script_limit, Piece, statements_of}
+use Rattle.vdb_session.specs.Shown.{world_by, holds}
+use Rattle.vdb_session.specs.Starting.{Deploys, ReadsAs, IsStartRefusal}
 use Rattle.vdb.specs.declared.ending.Ending.{Ending}
 use Rattle.vdb.specs.declared.ending.Ending.TheVariants as ending
-use Rattle.vdb.specs.declared.parts.Parts.{Parts}
 use Rattle.vdb.specs.declared.words.Setup.{Setup}
-use Rattle.vdb.specs.Script.{script_limit, Piece, statements_of}
-use Rattle.vdb.specs.Meaning.{Done}
-use Rattle.vdb.specs.LaneFacts.{RoseAt, world_under}
-use Rattle.vdb.specs.Engine.{lanes_of, counts, Stays, DeploysOn, ReadsAs, IsRefused}
-use Rattle.vdb.specs.Answering.{seen_in, replies_text}
+use Rattle.vdb.specs.Answering.{seen_in}
 use Rattle.vdb.specs.Ending.{status_of, last_line}
-use Rattle.vdb.specs.Making.{MakerTold}
-use Rattle.vdb.specs.Running.{connection_of}
+use Rattle.vdb.specs.Making.{MakerTold, AreFor}
 use Rattle.vdb.specs.Words.{setup_of}
 
 -- what holds of the parts that a maker holds, where it tells them
@@ -44,26 +43,20 @@ LaneRose told lane None new = ⊤
 LaneRose told lane (Some None) new = ⊥
 LaneRose {S} told lane (Some (Some parts)) new = (after : Parts S) × (new ≡ Some (Some after)) × RoseAt lane (counts told parts) (counts told after)
 
--- the rows of the held parts under definitions, where they are told
-abbrev pub held_world : {S : Type 0} → (S → Told) → List TableDef → Option (Option (Parts S)) → Option (List (List Cells))
-held_world told defs None = None
-held_world told defs (Some None) = None
-held_world told defs (Some (Some parts)) = world_under defs (lanes_of told parts)
+-- the world that the stores of parts hold under a catalog, where they tell it
+abbrev pub world_held : {S : Type 0} → (S → Told) → Defined → Parts S → Option (List (List Cells))
+world_held told cat parts = world_by (holds told cat) cat parts.lanes
 
--- replies to the first of these statements, one each
-abbrev pub Replies : Defined → Option (List (List Cells)) → List Piece → List Reply → Type 0
-Replies cat world pieces [] = ⊤
-Replies cat world [] (r ∷ rs) = ⊥
-Replies cat world (p ∷ ps) (r ∷ rs) = Done cat world p r × Replies cat world ps rs
+-- and that of the parts that are held
+abbrev pub held_world : {S : Type 0} → (S → Told) → Defined → Option (Option (Parts S)) → Option (List (List Cells))
+held_world told cat None = None
+held_world told cat (Some None) = None
+held_world told cat (Some (Some parts)) = world_held told cat parts
 
--- one reply to each of these statements, and no other
-abbrev pub RepliesToAll : Defined → Option (List (List Cells)) → List Piece → List Reply → Type 0
-RepliesToAll cat world pieces replies = Replies cat world pieces replies × (length replies ≡ length pieces)
-
--- the held parts deploy on the connection, this is what they define, and their contents keep its rules
-pub record Opens {S : Type 0} (told : S → Told) (setup : Setup) (cat : Defined) (parts : Parts S) : Type 0 where
-  pub deploys : DeploysOn parts.ddl (connection_of setup.conns) (lanes_of told parts) cat
-  pub reads : ReadsAs (connection_of setup.conns) cat.tables (lanes_of told parts) None
+-- the parts' DDL deploys over their lanes, this is what it defines, and the contents of each lane keep its rules
+pub record Opens {S : Type 0} (told : S → Told) (cat : Defined) (parts : Parts S) : Type 0 where
+  pub deploys : Deploys told parts.ddl parts.lanes cat
+  pub reads : All (ReadsAs told cat None) parts.lanes
 
 -- no count rose: of the maker, the feed, or where the parts are told of a resource
 pub record Quiet {S : Type 0} (told : S → Told) (old new : MakerTold S) (feed feed' : FeedTold) : Type 0 where
@@ -78,9 +71,10 @@ pub record Trace : Type 0 where
   pub world : Option (List (List Cells))
   pub replies : List Reply
 
--- each of these statements was answered, over parts that open
+-- each of these statements was answered, over parts that are for the setup and open
 pub record AnsweredAll {S : Type 0} (told : S → Told) (setup : Setup) (old : MakerTold S) (t : Trace) (pieces : List Piece) : Type 0 where
-  pub opens : WhereHeld old (Opens told setup t.cat)
+  pub made : WhereHeld old (AreFor setup)
+  pub opens : WhereHeld old (Opens told t.cat)
   pub replies : RepliesToAll t.cat t.world pieces t.replies
 
 -- nothing was read, and no statement was answered
@@ -94,7 +88,7 @@ Ends told setup old new feed feed' t (ending.Usage word) = ⊥
 Ends told setup old new feed feed' t ending.MakerFailed = Rose old.faults new.faults × Unread feed feed' t
 Ends told setup old new feed feed' t ending.Memory = Quiet told old new feed feed'
 Ends told setup old new feed feed' t (ending.Deploy f) =
-    Quiet told old new feed feed' × Unread feed feed' t × WhereHeld old (λ parts. IsRefused parts.ddl (connection_of setup.conns) (lanes_of told parts) f)
+    Quiet told old new feed feed' × Unread feed feed' t × WhereHeld old (λ parts. AreFor setup parts × IsStartRefusal told parts.ddl parts.lanes f)
 Ends told setup old new feed feed' t (ending.LaneFailed lane) =
     (new.faults ≡ old.faults) × LaneRose told lane old.held new.held
 Ends told setup old new feed feed' t ending.FeedFailed =
@@ -114,7 +108,7 @@ pub record Runs {S : Type 0} (told : S → Told) (setup : Setup) (old new : Make
   pub end : Ending
   pub ended : Bool
   pub whole : Bool
-  pub world_is : trace.world ≡ held_world told trace.cat.tables old.held
+  pub world_is : trace.world ≡ held_world told trace.cat old.held
   pub took : feed.left ≡ prepended trace.taken feed'.left
   pub each : Replies trace.cat trace.world (statements_of (take script_limit trace.taken) ended) trace.replies
   pub printed : Prints whole out out' (replies_text trace.replies ++ last_line setup.conns end)

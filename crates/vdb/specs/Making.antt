@@ -5,7 +5,7 @@ use Rattle.vdb_model.specs.declared.table.Kind.{Kind}
 use Rattle.resource.specs.Lanes.{labels_of}
 use Rattle.vdb.specs.declared.maker.MakeFault.{MakeFault}
 use Rattle.vdb.specs.declared.maker.MakeFault.TheVariants as fault
-use Rattle.vdb.specs.declared.parts.Parts.{Parts}
+use Rattle.vdb_session.specs.declared.parts.Parts.{Parts}
 use Rattle.vdb.specs.declared.words.Conn.{Conn}
 use Rattle.vdb.specs.declared.words.Setup.{Setup}
 
@@ -28,10 +28,14 @@ GivesBack (Some held) new p = new ≡ Some (Some p)
 abbrev pub labels : List Conn → List (List ℕ × Kind)
 labels conns = map (λ conn. (conn.name, conn.kind)) conns
 
--- the parts were handed over, with one lane per connection, of its name and kind, in their order
+-- the parts have one lane per connection, of its name and kind, in their order
+abbrev pub AreFor : {S : Type 0} → Setup → Parts S → Type 0
+AreFor setup parts = labels_of parts.lanes ≡ labels setup.conns
+
+-- the parts were handed over, and are for the setup
 pub record Made {S : Type 0} (setup : Setup) (old new : MakerTold S) (parts : Parts S) : Type 0 where
   pub takes : Takes old.held new.held parts
-  pub lanes : labels_of parts.lanes ≡ labels setup.conns
+  pub are_for : AreFor setup parts
   pub count : new.faults ≡ old.faults
 
 -- what a make leaves

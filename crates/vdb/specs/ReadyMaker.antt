@@ -2,12 +2,11 @@
 use Rattle.std.specs.Prelude.{◌≡◌, true, false, Option, Some, None, Result, is_err}
 use Rattle.vdb_base.specs.declared.calls.Calls.{Calls}
 use Rattle.vdb_base.specs.Calls.{is_listed, after_call}
-use Rattle.resource.specs.Lanes.{labels_of}
 use Rattle.vdb.specs.declared.maker.MakeFault.{MakeFault}
 use Rattle.vdb.specs.declared.maker.ReadyMaker.{ReadyMaker}
-use Rattle.vdb.specs.declared.parts.Parts.{Parts}
+use Rattle.vdb_session.specs.declared.parts.Parts.{Parts}
 use Rattle.vdb.specs.declared.words.Setup.{Setup}
-use Rattle.vdb.specs.Making.{MakerTold, labels}
+use Rattle.vdb.specs.Making.{MakerTold, AreFor}
 
 abbrev pub held_of : {S : Type 0} → ReadyMaker S → Option (Parts S)
 held_of maker = maker.parts
@@ -18,10 +17,10 @@ calls_of maker = maker.calls
 abbrev pub ready_told : {S : Type 0} → ReadyMaker S → MakerTold S
 ready_told maker = record { held = Some maker.parts; faults = maker.calls.faults }
 
--- parts are held whose lanes are the connections' in turn
+-- parts are held, and they are for the setup
 abbrev pub Serves : {S : Type 0} → Setup → Option (Parts S) → Type 0
 Serves setup None = ⊥
-Serves setup (Some parts) = labels_of parts.lanes ≡ labels setup.conns
+Serves setup (Some parts) = AreFor setup parts
 
 -- It fails exactly where the call is listed or the held parts don't serve the setup.
 pub record MakesByList {S : Type 0} (setup : Setup) (old new : ReadyMaker S) (result : Result (Parts S) MakeFault) : Type 0 where

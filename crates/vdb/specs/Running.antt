@@ -1,12 +1,12 @@
 -- A run of the program, but for its last line.
-use Rattle.std.specs.Prelude.{◌≡◌, ◌⊎◌, ℕ, Bool, if◌then◌else◌, List, [], ◌∷◌}
+use Rattle.std.specs.Prelude.{◌≡◌, ◌⊎◌, ℕ, Bool, if◌then◌else◌, List}
 use Rattle.vdb_base.specs.Counts.{Rose}
 use Rattle.vdb_base.specs.Feeding.{FeedTold}
 use Rattle.vdb_base.specs.Printing.{SinkTold, Prints}
 use Rattle.resource.specs.Told.{Told}
 use Rattle.vdb.specs.declared.ending.Ending.{Ending}
 use Rattle.vdb.specs.declared.ending.Ending.TheVariants as ending
-use Rattle.vdb.specs.declared.parts.Parts.{Parts}
+use Rattle.vdb_session.specs.declared.parts.Parts.{Parts}
 use Rattle.vdb.specs.declared.words.Conn.{Conn}
 use Rattle.vdb.specs.declared.words.Setup.{Setup}
 use Rattle.vdb.specs.declared.words.WordsFault.{WordsFault}
@@ -14,11 +14,6 @@ use Rattle.vdb.specs.declared.words.WordsFault.TheVariants as fault
 use Rattle.vdb.specs.Ending.{status_of, last_line}
 use Rattle.vdb.specs.Making.{MakerTold, Made, Keeps}
 use Rattle.vdb.specs.Session.{IsSession}
-
--- the name of the one connection
-abbrev pub connection_of : List Conn → List ℕ
-connection_of [] = []
-connection_of (conn ∷ conns) = conn.name
 
 -- how a refused make ends
 abbrev pub IsMakeEnding : {S : Type 0} → MakerTold S → MakerTold S → Ending → Type 0
@@ -37,7 +32,7 @@ pub record IsMadeRun {S : Type 0} (told : S → Told) (setup : Setup) (old new :
   pub mid : MakerTold S
   pub made : Made setup old mid parts
   pub keeps : Keeps mid new after
-  pub session : IsSession told (connection_of setup.conns) parts after feed feed' out out' e
+  pub session : IsSession told parts after feed feed' out out' e
 
 abbrev pub IsRun : {S : Type 0} → (S → Told) → Setup → MakerTold S → MakerTold S → FeedTold → FeedTold → SinkTold → SinkTold → Ending → Type 0
 IsRun told setup old new feed feed' out out' e =

@@ -3,15 +3,15 @@ use Rattle.std.specs.Prelude.{◌≡◌, ◌⊎◌, ℕ, true, false, List, []}
 use Rattle.vdb_base.specs.Feeding.{FeedTold}
 use Rattle.vdb_base.specs.Printing.{SinkTold}
 use Rattle.resource.specs.Told.{Told}
+use Rattle.vdb_session.specs.declared.parts.Opened.{Opened}
+use Rattle.vdb_session.specs.declared.parts.Parts.{Parts}
+use Rattle.vdb_session.specs.declared.parts.StartRefused.{StartRefused}
+use Rattle.vdb_session.specs.Script.{Piece, statements_of}
+use Rattle.vdb_session.specs.Starting.{Started, NotStarted}
 use Rattle.vdb.specs.declared.answering.Answers.{Answers}
-use Rattle.vdb.specs.declared.parts.Opened.{Opened}
 use Rattle.vdb.specs.declared.ending.Ending.{Ending}
-use Rattle.vdb.specs.declared.parts.Parts.{Parts}
-use Rattle.vdb.specs.declared.parts.StartRefused.{StartRefused}
 use Rattle.vdb.specs.declared.reading.ReadEnd.{ReadEnd}
 use Rattle.vdb.specs.declared.reading.ReadEnd.TheVariants as end
-use Rattle.vdb.specs.Script.{Piece, statements_of}
-use Rattle.vdb.specs.Engine.{Started, NotStarted}
 use Rattle.vdb.specs.Answering.{IsAnswered}
 use Rattle.vdb.specs.Reading.{IsRead}
 use Rattle.vdb.specs.Ending.{start_ending, ending_of}
@@ -33,22 +33,22 @@ pub record IsScriptRun {S : Type 0} (told : S → Told) (old new : Opened S) (fe
   pub ending_is : ending ≡ ending_of read answers
 
 -- the start was refused, and nothing was read or printed
-pub record IsNotStarted {S : Type 0} (told : S → Told) (connection : List ℕ) (old new : Parts S) (feed feed' : FeedTold) (out out' : SinkTold) (ending : Ending) : Type 0 where
+pub record IsNotStarted {S : Type 0} (told : S → Told) (old new : Parts S) (feed feed' : FeedTold) (out out' : SinkTold) (ending : Ending) : Type 0 where
   pub refused : StartRefused S
   pub parts : new ≡ refused.parts
-  pub start : NotStarted told connection old refused
+  pub start : NotStarted told old refused
   pub ending_is : ending ≡ start_ending refused.fault
   pub unread : feed' ≡ feed
   pub silent : out' ≡ out
 
 -- the engine was started, and answered the script
-pub record IsStartedRun {S : Type 0} (told : S → Told) (connection : List ℕ) (old new : Parts S) (feed feed' : FeedTold) (out out' : SinkTold) (ending : Ending) : Type 0 where
+pub record IsStartedRun {S : Type 0} (told : S → Told) (old new : Parts S) (feed feed' : FeedTold) (out out' : SinkTold) (ending : Ending) : Type 0 where
   pub started : Opened S
   pub after : Opened S
   pub parts : new ≡ after.parts
-  pub start : Started told connection old started
+  pub start : Started told old started
   pub run : IsScriptRun told started after feed feed' out out' ending
 
-abbrev pub IsSession : {S : Type 0} → (S → Told) → List ℕ → Parts S → Parts S → FeedTold → FeedTold → SinkTold → SinkTold → Ending → Type 0
-IsSession told connection old new feed feed' out out' ending =
-    IsNotStarted told connection old new feed feed' out out' ending ⊎ IsStartedRun told connection old new feed feed' out out' ending
+abbrev pub IsSession : {S : Type 0} → (S → Told) → Parts S → Parts S → FeedTold → FeedTold → SinkTold → SinkTold → Ending → Type 0
+IsSession told old new feed feed' out out' ending =
+    IsNotStarted told old new feed feed' out out' ending ⊎ IsStartedRun told old new feed feed' out out' ending

@@ -1,16 +1,15 @@
 //! Answers the statements of a script, one after another.
 
 ghost use Rattle.std.specs.Prelude.{◌≡◌, ◌≤◌, length};
-ghost use Rattle.vdb.specs.Script.{part, statements_of};
+ghost use Rattle.vdb_session.specs.Script.{part, statements_of};
 ghost use Rattle.vdb.specs.Answering.{noted, AnswersOne, IsAnswered};
 
-use crate::engine::{Answer, Engine};
-use crate::print::print_reply;
 use resource::Resource;
 use sql_tokens::{Found, next_statement};
 use std::alloc::Global;
 use vdb_base::Sink;
 use vdb_model::Reply;
+use vdb_session::{Answer, Engine, print_reply};
 
 /// Which replies there were.
 #[derive(Clone, Copy, Debug, PartialEq, Eq)]

@@ -1,12 +1,12 @@
 //! Rows of a table from the text of a CSV file.
 //!
-//! The first record names the columns, in any order and in any case; columns that the table doesn't have are skipped. A
-//! field without bytes is NULL. Spaces around a number or a boolean are skipped.
+//! The first record names the columns by their names at the source, in any order and in any case; columns that the table
+//! doesn't have are skipped. A field without bytes is NULL. Spaces around a number or a boolean are skipped.
 
 use csv::{ByteRecord, ReaderBuilder};
 use std::alloc::Global;
 use vdb_base::{Fit, NoMemory, Nums, Row, Rows, Seq, Text, Ty, Value, fits};
-use vdb_model::VarDef;
+use vdb_model::ColumnDef;
 
 /// Why a file gives no rows.
 #[derive(Clone, Copy, Debug, PartialEq, Eq)]
@@ -39,10 +39,10 @@ fn place_of(header: &ByteRecord, name: &Text) -> Option<u32> {
     found
 }
 
-fn places_of(alloc: Global, header: &ByteRecord, columns: &[VarDef]) -> Result<Nums, FileFault> {
+fn places_of(alloc: Global, header: &ByteRecord, columns: &[ColumnDef]) -> Result<Nums, FileFault> {
     let mut places = Seq::new(alloc);
     for column in columns {
-        let Some(place) = place_of(header, &column.name) else {
+        let Some(place) = place_of(header, &column.source) else {
             return Err(FileFault::Refused);
         };
         places.push(place)?;
@@ -99,7 +99,7 @@ fn row_of(
     alloc: Global,
     record: &ByteRecord,
     places: &[u32],
-    columns: &[VarDef],
+    columns: &[ColumnDef],
 ) -> Result<Row, FileFault> {
     let mut row = Seq::new(alloc);
     for (place, column) in places.iter().zip(columns) {
@@ -112,7 +112,7 @@ fn row_of(
 }
 
 /// The rows of a table with these columns. Over bytes in memory `csv` fails for want of memory alone.
-pub fn read_rows(alloc: Global, bytes: &[u8], columns: &[VarDef]) -> Result<Rows, FileFault> {
+pub fn read_rows(alloc: Global, bytes: &[u8], columns: &[ColumnDef]) -> Result<Rows, FileFault> {
     let mut reader = ReaderBuilder::new()
         .has_headers(false)
         .flexible(true)

@@ -4,9 +4,9 @@ ghost use Rattle.std.specs.Prelude.{◌≡◌};
 ghost use Rattle.vdb.specs.Ending.{status_of, start_ending, ending_of};
 
 use crate::answering::{Answers, Seen};
-use crate::parts::StartFault;
 use crate::reading::ReadEnd;
 use vdb_model::DeployFault;
+use vdb_session::StartFault;
 
 #[derive(Debug, Drop)]
 pub enum Ending {

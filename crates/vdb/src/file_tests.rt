@@ -19,6 +19,18 @@ const DDL: &[u8] =
 const COLUMN_TWICE: &[u8] =
     b"CREATE SERVER crm FOREIGN DATA WRAPPER csv;CREATE SCHEMA c SERVER crm;SET SCHEMA c;CREATE FOREIGN TABLE cust (id integer, id integer);";
 
+/// The table and its columns have other names than the file and its columns.
+const RENAMED: &[u8] =
+    b"CREATE SERVER crm FOREIGN DATA WRAPPER csv;CREATE SCHEMA c SERVER crm;SET SCHEMA c;CREATE FOREIGN TABLE people (number integer OPTIONS (NAMEINSOURCE 'ID'), called string OPTIONS (NAMEINSOURCE 'name')) OPTIONS (NAMEINSOURCE 'cust');";
+
+/// Two tables of one file, with the same columns there.
+const SHARED: &[u8] =
+    b"CREATE SERVER crm FOREIGN DATA WRAPPER csv;CREATE SCHEMA c SERVER crm;SET SCHEMA c;CREATE FOREIGN TABLE cust (id integer, name string);CREATE FOREIGN TABLE again (number integer OPTIONS (NAMEINSOURCE 'ID'), name string) OPTIONS (NAMEINSOURCE 'cust');";
+
+/// Two tables of one file, with other columns each.
+const TORN: &[u8] =
+    b"CREATE SERVER crm FOREIGN DATA WRAPPER csv;CREATE SCHEMA c SERVER crm;SET SCHEMA c;CREATE FOREIGN TABLE cust (id integer, name string);CREATE FOREIGN TABLE again (name string, id integer) OPTIONS (NAMEINSOURCE 'cust');";
+
 const NO_TEXT: &[u8] =
     b"CREATE SERVER \"\xff\" FOREIGN DATA WRAPPER csv;CREATE SCHEMA c SERVER crm;SET SCHEMA c;CREATE FOREIGN TABLE cust (id integer);";
 
@@ -32,6 +44,7 @@ struct Given {
     ddl: Option<&'static [u8]>,
     table: Option<&'static [u8]>,
     connection: &'static str,
+    script: &'static str,
 }
 
 /// What a run over the real maker prints, and its status.
@@ -50,7 +63,7 @@ fn run<R: Files + AllocGlobal + Threads + Sync>(rt: &R, given: &Given) -> Result
         words.push(String::from_str(alloc, word)?)?;
     }
     let mut script = Seq::new(alloc);
-    for b in SCRIPT.as_bytes() {
+    for b in given.script.as_bytes() {
         script.push(*b)?;
     }
     let mut maker = FileMaker::new(rt);
@@ -70,8 +83,9 @@ fn reads_files(rt: HostRuntime) -> Result<(), Fail> {
         ddl: Some(DDL),
         table: Some(CUST),
         connection: "crm=csv:vdb_file_test",
+        script: SCRIPT,
     };
-    let table: [(Given, &str); 10] = [
+    let table: [(Given, &str); 13] = [
         (
             Given { ..whole },
             "COLUMNS id,name\nROW 2,'Bob'\nROW 3,'Bob'\nEND 2\n|0",
@@ -124,14 +138,37 @@ fn reads_files(rt: HostRuntime) -> Result<(), Fail> {
                 ddl: Some(NO_TEXT),
                 ..whole
             },
-            "DEPLOY 31 at 0\n|3",
+            "DEPLOY 31 at 14\n|3",
         ),
         (
             Given {
                 ddl: Some(COLUMN_TWICE),
                 ..whole
             },
-            "DEPLOY 31 at 0\n|3",
+            "DEPLOY 32 id\n|3",
+        ),
+        (
+            Given {
+                ddl: Some(RENAMED),
+                script: "SELECT called, number FROM c.people WHERE number < 3;",
+                ..whole
+            },
+            "COLUMNS called,number\nROW 'Ann',1\nROW 'Bob',2\nEND 2\n|0",
+        ),
+        (
+            Given {
+                ddl: Some(SHARED),
+                script: "SELECT a.number, b.name FROM c.again a JOIN c.cust b ON a.number = b.id WHERE b.id = 1;",
+                ..whole
+            },
+            "COLUMNS number,name\nROW 1,'Ann'\nEND 1\n|0",
+        ),
+        (
+            Given {
+                ddl: Some(TORN),
+                ..whole
+            },
+            "FAULT maker\n|4",
         ),
     ];
     for (given, wanted) in table {

@@ -8,9 +8,9 @@ ghost use Rattle.vdb_model.specs.FaultText.{fault_line};
 ghost use Rattle.vdb.specs.Ending.{lane_texts, last_line};
 
 use crate::ending::Ending;
-use crate::print::{print_deploy, print_line, print_named, print_numbered};
 use crate::words::Conns;
 use vdb_base::{Failed, Sink};
+use vdb_lines::{print_deploy, print_line, print_named, print_numbered};
 
 /// Prints the fault of a lane, with the name of its connection.
 fn print_lane<O: Sink>(lane: u32, conns: &Conns, out: &mut O) -> Result<(), Failed>

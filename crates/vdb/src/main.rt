@@ -1,39 +1,30 @@
 //! The program: it runs the statements of a script over the stores that its words name.
 //!
 //! `vdb run DDL NAME=csv:FOLDER` reads the DDL and the script on standard input, prints a reply to each statement in turn,
-//! and ends with a status. `program` is the whole of it over what it is handed: its clause says which bytes are printed,
-//! and what the status tells. The engine (`engine`) is parts that are deployed and attached; `statement`, `plan` and
-//! `query` take a statement from its text to its rows, `print` writes the lines. `files` makes the stores of the real
-//! program, which are read from files.
+//! and ends with a status. `program` is the whole of it over what it is handed: its clauses say which bytes are printed,
+//! what each status tells, and what is answered where nothing is wanting. It makes the parts of the run by its `Maker`, over
+//! any number of lanes; `session` starts the engine of `vdb_session` over them and reads the script, which `answering` cuts
+//! into statements, each answered and its reply printed in turn. `ending` and `last_line` are the last line and the status.
+//! `files` is the maker of the real program: its stores are read from CSV files, as the DDL names them.
 #![tactic(auto)]
 
 mod answering;
 mod csv_table;
-mod ddl;
-mod deploy;
 mod ending;
-mod engine;
 #[cfg(test)]
 mod file_tests;
 mod files;
-mod lane_calls;
 mod last_line;
 mod maker;
-mod parts;
-mod plan;
-mod print;
-#[cfg(test)]
-mod print_tests;
 mod program;
 #[cfg(test)]
 mod program_tests;
-mod query;
 mod reading;
 mod session;
 #[cfg(test)]
 mod setup_tests;
-mod starting;
-mod statement;
+#[cfg(test)]
+mod shop_tests;
 mod words;
 
 use ending::Ending;

@@ -5,10 +5,10 @@ ghost use Rattle.vdb_base.specs.Calls.{uncalled};
 ghost use Rattle.resource.specs.Lanes.{labels_of};
 ghost use Rattle.vdb.specs.Making.{labels};
 
-use crate::parts::Parts;
 use crate::words::{Conn, Setup};
 use resource::{Lane, Resource};
 use vdb_base::{Calls, Nums};
+use vdb_session::Parts;
 
 #[derive(Clone, Copy, Debug, PartialEq, Eq)]
 pub enum MakeFault {

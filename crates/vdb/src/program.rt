@@ -1,8 +1,8 @@
 //! The whole program.
 
-ghost use Rattle.std.specs.Prelude.{◌≡◌, map, length};
+ghost use Rattle.std.specs.Prelude.{◌≡◌, map};
 ghost use Rattle.std.specs.String.{string_bytes};
-ghost use Rattle.vdb.specs.Running.{IsRun, Finishes, words_ending, connection_of};
+ghost use Rattle.vdb.specs.Running.{IsRun, Finishes, words_ending};
 ghost use Rattle.vdb.specs.Headline.{Headline};
 ghost use Rattle.vdb.specs.Causes.{Causes, Complete};
 
@@ -13,15 +13,7 @@ use crate::session::run_parts;
 use crate::words::{Conns, Setup, WordsFault, read_words};
 use std::alloc::Global;
 use std::thread::Threads;
-use vdb_base::{Feed, Seq, Sink, Text};
-
-/// The name of the one connection.
-fn only_name(conns: &Conns) -> &Text
-    requires { length conns.now ≡ 1 }
-    ensures { result.now ≡ connection_of conns.now }
-{
-    &conns.as_slice()[0].name
-}
+use vdb_base::{Feed, Seq, Sink};
 
 /// All but the last line.
 fn run_setup<M: Maker, I: Feed, O: Sink>(
@@ -31,7 +23,6 @@ fn run_setup<M: Maker, I: Feed, O: Sink>(
     script: &mut I,
     out: &mut O,
 ) -> Ending
-    requires one { length setup.now.conns ≡ 1 }
     ensures { IsRun M.S.told setup.now (M.told maker.old) (M.told maker.new) (I.told script.old) (I.told script.new) (O.told out.old) (O.told out.new) result }
 {
     let parts = match maker.make(setup) {
@@ -39,7 +30,7 @@ fn run_setup<M: Maker, I: Feed, O: Sink>(
         Err(MakeFault::Failed) => return Ending::MakerFailed,
         Err(MakeFault::Memory) => return Ending::Memory,
     };
-    let ran = run_parts(parts, alloc, only_name(&setup.conns), script, out);
+    let ran = run_parts(parts, alloc, script, out);
     maker.keep(ran.parts);
     ran.ending
 }

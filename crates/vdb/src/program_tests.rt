@@ -1,7 +1,6 @@
 //! What no clause says: what runs of the program print, seen whole.
 
 use crate::maker::ReadyMaker;
-use crate::parts::Parts;
 use crate::program::program;
 use resource::{Lane, Lanes, MemResource, StoredTable, Tables};
 use std::alloc::Global;
@@ -9,8 +8,10 @@ use std::test::Fail;
 use std::thread::Threads;
 use vdb_base::{Bytes, MemFeed, MemSink, NoMemory, Row, Seq, Text, Value};
 use vdb_model::{Caps, Kind};
+use vdb_session::Parts;
 
-const PLAIN: Caps = Caps {
+/// What a store in memory can do: nothing but whole columns.
+pub(crate) const PLAIN: Caps = Caps {
     equals: false,
     ordered: false,
     in_max: 0,
@@ -32,9 +33,14 @@ const WORDS: &str = "run one.ddl crm=csv:data";
 const DDL: &str =
     "CREATE SERVER crm FOREIGN DATA WRAPPER csv;CREATE SCHEMA c SERVER crm;SET SCHEMA c;CREATE FOREIGN TABLE cust (id integer, name string);";
 
+/// The same with two views, of which one stands on the other.
+const VIEWS: &str =
+    "CREATE SERVER crm FOREIGN DATA WRAPPER csv;CREATE SCHEMA c SERVER crm;SET SCHEMA c;CREATE FOREIGN TABLE cust (id integer, name string);CREATE VIRTUAL SCHEMA v;SET SCHEMA v;CREATE VIEW a AS SELECT id AS n, name AS w FROM c.cust;CREATE VIEW b AS SELECT x.n, y.n AS m FROM v.a x JOIN v.a y ON x.w = y.w;";
+
 #[derive(Clone, Copy)]
-enum Cell {
+pub(crate) enum Cell {
     Null,
+    Bool(bool),
     Num(i128),
     Str(&'static str),
 }
@@ -43,6 +49,12 @@ const CUST: [[Cell; 2]; 3] = [
     [Cell::Num(1), Cell::Str("Ann")],
     [Cell::Num(2), Cell::Str("Bob")],
     [Cell::Num(3), Cell::Null],
+];
+
+const PEOPLE: [[Cell; 2]; 3] = [
+    [Cell::Num(1), Cell::Str("Ann")],
+    [Cell::Num(2), Cell::Str("Bob")],
+    [Cell::Num(3), Cell::Str("Bob")],
 ];
 
 /// The numbers of the calls that fail, and at most how many bytes each read gives.
@@ -63,7 +75,7 @@ const NONE: Fails<'static> = Fails {
     sink: &[],
 };
 
-fn seq<T: Copy + Drop>(alloc: Global, items: &[T]) -> Result<Seq<T>, NoMemory> {
+pub(crate) fn seq<T: Copy + Drop>(alloc: Global, items: &[T]) -> Result<Seq<T>, NoMemory> {
     let mut made = Seq::new(alloc);
     for item in items {
         made.push(*item)?;
@@ -71,11 +83,12 @@ fn seq<T: Copy + Drop>(alloc: Global, items: &[T]) -> Result<Seq<T>, NoMemory> {
     Ok(made)
 }
 
-fn row(alloc: Global, cells: &[Cell]) -> Result<Row, NoMemory> {
+pub(crate) fn row(alloc: Global, cells: &[Cell]) -> Result<Row, NoMemory> {
     let mut made = Seq::new(alloc);
     for cell in cells {
         made.push(match cell {
             Cell::Null => Value::Null,
+            Cell::Bool(truth) => Value::Bool(*truth),
             Cell::Num(number) => Value::Num(*number),
             Cell::Str(text) => Value::Str(Text::from_str(alloc, text)?),
         })?;
@@ -173,12 +186,12 @@ const SCRIPTS: [(&str, &str); 11] = [
     ),
     (
         "SELECT id FROM cust WHERE name = NULL;",
-        "REFUSED 1 at 0\n|1",
+        "COLUMNS id\nEND 0\n|0",
     ),
     ("SELECT id FROM c.custs;", "REFUSED 2 c.custs\n|1"),
     (
         "SELECT x FROM cust; SELECT FROM cust; SELECT id FROM cust WHERE id = 2;",
-        "REFUSED 2 x\nREFUSED 1 at 20\nCOLUMNS id\nROW 2\nEND 1\n|1",
+        "REFUSED 2 x\nREFUSED 1 at 27\nCOLUMNS id\nROW 2\nEND 1\n|1",
     ),
     (
         "; SELECT id FROM cust WHERE id = 'x';",
@@ -201,6 +214,63 @@ fn answers_scripts(rt: HostRuntime) -> Result<(), Fail> {
     Ok(())
 }
 
+/// DDL with scripts over three rows, and what runs of them print.
+const WORKED: [(&str, &str, &str); 12] = [
+    (
+        VIEWS,
+        "SELECT n, m FROM v.b WHERE n = 2 ORDER BY 2;",
+        "COLUMNS n,m\nROW 2,2\nROW 2,3\nEND 2\n|0",
+    ),
+    (
+        VIEWS,
+        "SELECT n FROM v.a x JOIN v.a y ON x.n = y.n;",
+        "REFUSED 3 n\n|1",
+    ),
+    (
+        DDL,
+        "SELECT name, COUNT(*) AS n FROM c.cust GROUP BY name ORDER BY n DESC;",
+        "COLUMNS name,n\nROW 'Bob',2\nROW 'Ann',1\nEND 2\n|0",
+    ),
+    (DDL, "SELECT 1.5 FROM c.cust;", "REFUSED 5 at 7\n|1"),
+    (
+        DDL,
+        "SELECT id + 1 + 1 + 1 FROM c.cust;",
+        "REFUSED 6 at 18\n|1",
+    ),
+    (DDL, "SELECT FROM c.cust;", "REFUSED 1 at 7\n|1"),
+    (DDL, "SELECT nosuch FROM c.cust;", "REFUSED 2 nosuch\n|1"),
+    (
+        DDL,
+        "SELECT id FROM c.cust WHERE name = 1;",
+        "REFUSED 4 at 33\n|1",
+    ),
+    (
+        DDL,
+        "SELECT id FROM c.cust;SELECT 1.5 FROM c.cust;",
+        "COLUMNS id\nROW 1\nROW 2\nROW 3\nEND 3\nREFUSED 5 at 29\n|1",
+    ),
+    (
+        DDL,
+        "INSERT INTO c.cust (id, name) VALUES (4, 'Cid');",
+        "REFUSED 1 at 0\n|1",
+    ),
+    (DDL, "EXPLAIN SELECT id FROM c.cust;", "REFUSED 1 at 0\n|1"),
+    (DDL, "EXEC v.p();", "REFUSED 2 v.p\n|1"),
+];
+
+#[test]
+fn answers_worked_rows(rt: HostRuntime) -> Result<(), Fail> {
+    let alloc = rt.alloc();
+    for (ddl, script, wanted) in WORKED {
+        assert_eq!(rt;
+            run(&rt, alloc, WORDS, ddl, PEOPLE.as_slice(), script, NONE)?.as_str(),
+            wanted,
+            "at {script}"
+        );
+    }
+    Ok(())
+}
+
 #[test]
 fn refuses_starts(rt: HostRuntime) -> Result<(), Fail> {
     let alloc = rt.alloc();
@@ -209,12 +279,13 @@ fn refuses_starts(rt: HostRuntime) -> Result<(), Fail> {
         [Cell::Num(2), Cell::Num(7)],
     ];
     let good = CUST.as_slice();
-    let table: [(&str, &str, &[[Cell; 2]], &str); 6] = [
+    let table: [(&str, &str, &[[Cell; 2]], &str); 7] = [
         ("go", DDL, good, "USAGE 1\n|2"),
         ("run one.ddl", DDL, good, "USAGE 3\n|2"),
         ("run one.ddl crm=csv:data x", DDL, good, "USAGE 4\n|2"),
         ("run one.ddl erp=csv:data", DDL, good, "FAULT maker\n|4"),
-        (WORDS, "CREATE SERVER crm;", good, "DEPLOY 31 at 0\n|3"),
+        (WORDS, "CREATE SERVER crm;", good, "DEPLOY 31 at 17\n|3"),
+        (WORDS, "", good, "DEPLOY 33 crm\n|3"),
         (WORDS, DDL, bad.as_slice(), "DEPLOY 41 crm c.cust 2 2\n|3"),
     ];
     for (line, ddl, cust, wanted) in table {

@@ -1,17 +1,15 @@
 //! A run over parts that were made.
 
-ghost use Rattle.std.specs.Prelude.{◌≡◌, length};
 ghost use Rattle.vdb.specs.Session.{pieces_read, IsScriptRun, IsSession};
 ghost use Rattle.vdb.specs.Answering.{IsAnswered};
 
 use crate::answering::{Answers, Seen, answer_all};
 use crate::ending::{Ending, ending_of, start_ending};
-use crate::engine::Engine;
-use crate::parts::Parts;
 use crate::reading::{ReadEnd, read_script};
 use resource::Resource;
 use std::alloc::Global;
-use vdb_base::{Feed, Sink, Text};
+use vdb_base::{Feed, Sink};
+use vdb_session::{Engine, Parts};
 
 /// The parts after a run, and how it ended.
 #[derive(Drop)]
@@ -60,14 +58,12 @@ fn answer_script<S: Resource, I: Feed, O: Sink>(
 pub fn run_parts<S: Resource, I: Feed, O: Sink>(
     parts: Parts<S>,
     alloc: Global,
-    connection: &Text,
     script: &mut I,
     out: &mut O,
 ) -> Ran<S>
-    requires one { length parts.lanes ≡ 1 }
-    ensures { IsSession S.told connection.now parts result.parts (I.told script.old) (I.told script.new) (O.told out.old) (O.told out.new) result.ending }
+    ensures { IsSession S.told parts result.parts (I.told script.old) (I.told script.new) (O.told out.old) (O.told out.new) result.ending }
 {
-    let mut engine = match Engine::start(parts, alloc, connection) {
+    let mut engine = match Engine::start(parts, alloc) {
         Ok(engine) => engine,
         Err(refused) => {
             return Ran {

@@ -1,6 +1,6 @@
 //! The words of the command line: `run VDB CONN`, where CONN is `NAME=csv:PATH`.
 
-ghost use Rattle.std.specs.Prelude.{◌≡◌, ◌<◌, map, length, Ok, IfOk, IfErr};
+ghost use Rattle.std.specs.Prelude.{◌≡◌, ◌<◌, map, Ok, IfOk, IfErr};
 ghost use Rattle.std.specs.Str.{str_to_ascii_lowercase};
 ghost use Rattle.std.specs.List.{list_all};
 ghost use Rattle.std.specs.Option.{option_map};
@@ -188,7 +188,6 @@ fn read_command(alloc: Global, words: &[String]) -> Result<Setup, WordsFault>
 pub fn read_words(alloc: Global, words: &Vec<String>) -> Result<Setup, WordsFault>
     ensures setup { IfOk result (λ s. spec.setup_of (map string_bytes words.now.items) ≡ Ok s) }
     ensures usage { IfErr result (IsUsage (spec.setup_of (map string_bytes words.now.items))) }
-    ensures one { IfOk result (λ s. length s.conns ≡ 1) }
 {
     read_command(alloc, words.as_slice())
 }

@@ -1,5 +1,5 @@
 use Rattle.std.proofs.Common.{true, false, arith}
-use Rattle.vdb.specs.Script.{statements_of, statements_from}
+use Rattle.vdb_session.specs.Script.{statements_of, statements_from}
 use Rattle.vdb.specs.Answering.{noted}
 use Rattle.vdb.proofs.AnswerSteps.{answered_none, answered_more}
 use Rattle.vdb.proofs.Statements.{one_more, no_more}

@@ -1,5 +1,5 @@
 use Rattle.std.proofs.Common.{◌≤◌, ◌-◌, length, true, None}
-use Rattle.vdb.specs.Script.{statements_of, statements_from}
+use Rattle.vdb_session.specs.Script.{statements_of, statements_from}
 use Rattle.vdb.specs.Answering.{Answered}
 use Rattle.vdb.proofs.answering.answer_all.Given as goal
 

@@ -1,7 +1,0 @@
-use Rattle.std.proofs.Common.{arith}
-use Rattle.vdb_model.specs.Lines.{number_text}
-use Rattle.vdb.proofs.Pens.{spaced-full, number-full}
-use Rattle.vdb.proofs.print.print_doomed.Goals as goal
-
-pub returns : goal.returns
-returns g c = rw (spaced-full (number_text c.args.number) (number-full c.args.number (omega arith))) c.print_count.ensures

@@ -1,5 +1,0 @@
-use Rattle.vdb.proofs.Pens.{Pen-flush}
-use Rattle.vdb.proofs.print.print_reply.Goals as goal
-
-pub returns-in-Ok : goal.returns-in-Ok
-returns-in-Ok g c = Pen-flush _ _ _ _ _ _ _ c.new-pen.ensures c.in-Ok.ensures c.flush.ensures.prints

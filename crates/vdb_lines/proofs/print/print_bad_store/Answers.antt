@@ -1,0 +1,10 @@
+use Rattle.std.proofs.Common.{refl, ◌∷◌}
+use Rattle.vdb_model.specs.FaultText.{store_text}
+use Rattle.vdb_lines.proofs.Pens.{Pen-two, Pen-cut}
+use Rattle.vdb_lines.proofs.print.print_bad_store.Goals as goal
+
+pub returns-in-Ok : goal.returns-in-Ok
+returns-in-Ok g c = Pen-two _ _ _ _ _ _ _ _ _ _ c.in-Ok.ensures c.print_store.ensures refl
+
+pub returns-in-Err : goal.returns-in-Err
+returns-in-Err g c = Pen-cut _ _ _ _ _ (32 ∷ store_text c.args.table.now) c.in-Err.ensures refl

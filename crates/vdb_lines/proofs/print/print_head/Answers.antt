@@ -1,0 +1,6 @@
+use Rattle.std.proofs.Common.{refl}
+use Rattle.vdb_lines.proofs.Pens.{Pen-two}
+use Rattle.vdb_lines.proofs.print.print_head.Goals as goal
+
+pub returns-in-Ok : goal.returns-in-Ok
+returns-in-Ok g c = Pen-two _ _ _ _ _ _ _ _ _ _ c.in-Ok.ensures c.print_count.ensures refl

@@ -1,0 +1,13 @@
+pub mod Numbers
+pub mod Marked
+pub mod AskedLanes
+pub mod ServedLanes
+pub mod WholeTables
+pub mod FetchedRows
+pub mod FetchedTables
+pub mod SameWorlds
+pub mod Stepped
+pub mod AttachedLanes
+pub mod AnswerSays
+pub mod StartSays
+pub mod QueryWalks

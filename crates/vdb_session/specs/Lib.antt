@@ -1,0 +1,11 @@
+pub mod Script
+pub mod Shown
+pub mod Meaning
+pub mod Lanes
+pub mod Fetching
+pub mod Querying
+pub mod Starting
+pub mod Attaching
+pub mod Deploying
+pub mod Answer
+pub mod Replies
