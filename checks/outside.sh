@@ -1,6 +1,6 @@
 #!/bin/bash
-# Runs of the real program over what no test can hand it: words that aren't text, a script of the greatest length, a full
-# disk, an input that can't be read. Prints a line a run, and fails at the first that answers otherwise.
+# Runs of the real program over what no test can hand it: words that aren't text, a DDL and a script of the greatest length, a
+# full disk, an input that can't be read; and over the examples. Prints a line a run, and fails at the first that answers otherwise.
 set -u
 top=$(cd "$(dirname "$0")/.." && pwd)
 work=$(mktemp -d)
@@ -32,6 +32,24 @@ expect "the example" 0 "$(printf "COLUMNS id,name\nROW 2,'Bob'\nROW 3,'Bob'\nEND
 
 "$top/vdb" run "$top/examples/shop/shop.ddl" "files=csv:$top/examples/shop/data" <"$top/examples/shop/report.sql" >"$work/out"; status=$?
 expect "the shop's report" 1 "$(cat "$top/examples/shop/report.out")"
+
+for nested in 64 65; do
+    open=$(printf '(%.0s' $(seq $nested)) close=$(printf ')%.0s' $(seq $nested))
+    "$top/vdb" "${words[@]}" <<<"SELECT ${open}1$close AS a;" >"$work/out"; status=$?
+    if [ $nested = 64 ]; then
+        expect "$nested parentheses" 0 "$(printf 'COLUMNS a\nROW 1\nEND 1')"
+    else
+        expect "$nested parentheses" 1 'REFUSED 1 at 71'
+    fi
+done
+
+head -c 4194304 /dev/zero | tr '\0' ' ' >"$work/blank.ddl"
+"$top/vdb" run "$work/blank.ddl" "crm=csv:$first/data" >"$work/out" </dev/null; status=$?
+expect "a DDL of 4,194,304 spaces" 3 'DEPLOY 33 crm'
+
+printf ' ' >>"$work/blank.ddl"
+"$top/vdb" run "$work/blank.ddl" "crm=csv:$first/data" >"$work/out" </dev/null; status=$?
+expect "a DDL of 4,194,305 spaces" 3 'DEPLOY 31 at 4194304'
 
 head -c 16777216 /dev/zero | tr '\0' ' ' | "$top/vdb" "${words[@]}" >"$work/out"; status=$?
 expect "16,777,216 spaces" 0 ''
