@@ -28,7 +28,7 @@ use Rattle.resolver.specs.declared.known.KnownArm.{KnownArm}
 use Rattle.resolver.specs.declared.scope.Over.{Over}
 use Rattle.resolver.specs.declared.scope.Over.TheVariants.{Rows, Groups}
 use Rattle.resolver.specs.Operators as op
-use Rattle.resolver.specs.Types.{is_a, common_of, as_number, widened, computed_type, aggregate_type}
+use Rattle.resolver.specs.Types.{is_a, is_held, common_of, as_number, widened, computed_type, aggregate_type}
 use Rattle.catalog_laws.proofs.WalkGives.{Gives, gives, refuses, gives_if_else, gives_unless, gives_next, AndClosed, Walks}
 
 -- its expression reads no variable
@@ -47,7 +47,7 @@ arms_shut [] all = refl
 arms_shut (arm ∷ arms) all = both_true (both_true all.0.0 all.0.1) (arms_shut arms all.1)
 
 constant_shut : (at : ℕ) (c : Constant) → Gives (op.constant_of at c) Shut
-constant_shut at (constant.Value v) = gives Shut _ (closed-Const v)
+constant_shut at (constant.Value v) = gives_if_else Shut (is_held v) _ (TooWide at) (gives Shut _ (closed-Const v))
 constant_shut at constant.Fraction = refuses Shut (Fractional at)
 constant_shut at constant.TooLong = refuses Shut (TooWide at)
 

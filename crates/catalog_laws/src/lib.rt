@@ -3,7 +3,7 @@
 //! A resolved query or statement is closed over its catalog: it names only views that are there, and reads no variable
 //! (`specs/Closed`). A deployed catalog is stacked: each view stands on those before it (`specs/Stacked`). So a query over a
 //! deployed catalog can be expanded, as `view_stack` needs it. Nothing is run here: each function is a law, which takes nothing
-//! and does nothing, and its contract is the statement. The session is to stand on this crate.
+//! and does nothing, and its contract is the statement. `vdb_session` stands on this crate.
 //!
 //! The tests of `resolver` and `metadata` stand here, over worked texts, so that those crates are proved once.
 #![tactic(auto)]

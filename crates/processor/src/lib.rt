@@ -5,7 +5,7 @@
 //! copied where an operator only reads them. `run` arranges them as a query asks, and leaves rows that tie in any order.
 //!
 //! No store is asked here, nothing is needed of the arguments, and the one error is `NoMemory`. Views are to be expanded before,
-//! as `view_stack` does. The session, `vdb_session`, will stand on this crate.
+//! as `view_stack` does. `vdb_session` stands on this crate.
 #![tactic(auto)]
 
 pub mod laws;

@@ -30,7 +30,7 @@ use Rattle.resolver.specs.declared.known.KnownArm.{KnownArm}
 use Rattle.resolver.specs.declared.scope.Over.{Over}
 use Rattle.resolver.specs.declared.scope.Over.TheVariants.{Rows, Groups}
 use Rattle.resolver.specs.Walking.{next, Walk, given}
-use Rattle.resolver.specs.Types.{type_of, is_a, common_of, settled, as_number, widened, computed_type, aggregate_type}
+use Rattle.resolver.specs.Types.{type_of, is_held, is_a, common_of, settled, as_number, widened, computed_type, aggregate_type}
 
 abbrev pub exprs_of : List Known → List Expr
 exprs_of [] = []
@@ -54,7 +54,7 @@ made_of e t first parts = record { expr = e; ty = Some t; first = first; column 
 
 -- a fraction, and a number past 128 bits, are refused at the literal
 abbrev pub constant_of : ℕ → Constant → Result Known Refusal
-constant_of at (constant.Value v) = Ok (record { expr = Const v; ty = type_of v; first = at; column = false; between = false })
+constant_of at (constant.Value v) = if is_held v then Ok (record { expr = Const v; ty = type_of v; first = at; column = false; between = false }) else Err (TooWide at)
 constant_of at constant.Fraction = Err (Fractional at)
 constant_of at constant.TooLong = Err (TooWide at)
 

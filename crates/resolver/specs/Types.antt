@@ -18,6 +18,13 @@ type_of (Truth b) = Some Boolean
 type_of (Num n) = Some (if is_of Integer (Num n) then Integer else if is_of Long (Num n) then Long else BigInteger)
 type_of (Str s) = Some Text
 
+-- no number past 128 bits
+abbrev pub is_held : Value → Bool
+is_held Null = true
+is_held (Truth b) = true
+is_held (Num n) = is_of BigInteger (Num n)
+is_held (Str s) = true
+
 -- NULL goes with every type
 abbrev pub is_a : Ty → Option Ty → Bool
 is_a t None = true

@@ -1,6 +1,6 @@
 //! Which types go together.
 
-ghost use Rattle.std.specs.Prelude.{◌≡◌, Some};
+ghost use Rattle.std.specs.Prelude.{◌≡◌, true, Some};
 ghost use Rattle.resolver.specs.Answers.{Resolves};
 ghost use Rattle.resolver.specs.Operators.{types_of};
 ghost use Rattle.resolver.specs.Types as spec;
@@ -47,7 +47,8 @@ pub fn is_a(ty: Ty, found: Option<Ty>) -> bool
 }
 
 fn number_type(value: i128) -> Ty
-    ensures { Some result ≡ spec.type_of (Num value) }
+    ensures is { Some result ≡ spec.type_of (Num value) }
+    ensures held { spec.is_held (Num value) ≡ true }
 {
     if -2147483648 <= value && value <= 2147483647 {
         Ty::Integer
@@ -60,7 +61,8 @@ fn number_type(value: i128) -> Ty
 
 /// The type of a literal.
 pub fn type_of(value: &Value) -> Option<Ty>
-    ensures { result ≡ spec.type_of value.now }
+    ensures is { result ≡ spec.type_of value.now }
+    ensures held { spec.is_held value.now ≡ true }
 {
     match value {
         Value::Null => None,

@@ -2,7 +2,7 @@
 //!
 //! The order of the rows of tables and views makes no difference to a relation's rows but their order, nor to what may be
 //! answered to a query. Nothing is run here: each function is a law, which takes nothing and does nothing, and its contract is
-//! the statement, whose definition stands in `specs/`. The session is to stand on this crate, since a store gives the rows of a
+//! the statement, whose definition stands in `specs/`. `vdb_session` stands on this crate, since a store gives the rows of a
 //! table in any order.
 #![tactic(auto)]
 
