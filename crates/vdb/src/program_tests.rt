@@ -433,3 +433,42 @@ fn a_script_ends_at_its_limit(rt: HostRuntime) -> Result<(), Fail> {
     }
     Ok(())
 }
+
+#[test]
+fn nests_at_most_64_levels(rt: HostRuntime) -> Result<(), Fail> {
+    let alloc = rt.alloc();
+    let table: [(usize, &str); 3] = [
+        (1, "COLUMNS a\nROW 1\nEND 1\n|0"),
+        (64, "COLUMNS a\nROW 1\nEND 1\n|0"),
+        (65, "REFUSED 1 at 71\n|1"),
+    ];
+    for (levels, wanted) in table {
+        let open = "(".repeat(alloc, levels)?;
+        let close = ")".repeat(alloc, levels)?;
+        let script = format!(in alloc; "SELECT {open}1{close} AS a;")?;
+        assert_eq!(rt;
+            run(&rt, alloc, WORDS, DDL, CUST.as_slice(), script.as_str(), NONE)?.as_str(),
+            wanted,
+            "at {levels} levels"
+        );
+    }
+    Ok(())
+}
+
+#[test]
+fn a_ddl_ends_at_its_limit(rt: HostRuntime) -> Result<(), Fail> {
+    let alloc = rt.alloc();
+    let table: [(usize, &str); 2] = [
+        (4_194_304, "DEPLOY 33 crm\n|3"),
+        (4_194_305, "DEPLOY 31 at 4194304\n|3"),
+    ];
+    for (length, wanted) in table {
+        let ddl = " ".repeat(alloc, length)?;
+        assert_eq!(rt;
+            run(&rt, alloc, WORDS, ddl.as_str(), CUST.as_slice(), "", NONE)?.as_str(),
+            wanted,
+            "at {length} spaces"
+        );
+    }
+    Ok(())
+}
