@@ -32,7 +32,7 @@ gives_next {Q = Q} {r = Err fault} h after = refuses Q fault
 abbrev pub Passes : Test → Type 0
 Passes test = test ≡ None
 
-all_pass : (tests : List Test) → first tests ≡ None → AllByRecursion Passes tests
+pub all_pass : (tests : List Test) → first tests ≡ None → AllByRecursion Passes tests
 all_pass [] h = tt
 all_pass (None ∷ tests) h = (refl, all_pass tests h)
 all_pass (Some fault ∷ tests) h = absurd (cc h)

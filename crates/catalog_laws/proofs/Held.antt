@@ -1,6 +1,5 @@
 -- What holds of all that items define, and databases, servers and schemas keep it.
-use Rattle.std.proofs.Common.{◌≡◌, ℕ, ◌+◌, Bool, true, false, if◌then◌else◌, List, [], ◌∷◌, ◌++◌, length, Option, Some, None, refl, sym, subst, arith, length-append}
-use Rattle.std.specs.Prelude.{nat_lt}
+use Rattle.std.proofs.Common.{◌≡◌, ℕ, ◌+◌, true, List, [], ◌∷◌, ◌++◌, length, Option, Some, None, refl, sym, subst, arith, length-append}
 use Rattle.std.specs.List.{All}
 use Rattle.std.proofs.lemmas.Bool.Decides.{nat_tests}
 use Rattle.std.proofs.lemmas.List.Elements.{All-nil, All-push, All-weaker, All-head, All-tail}
@@ -21,9 +20,11 @@ use Rattle.catalog_laws.specs.Stacked.{IsPlainTable, IsStacked}
 use Rattle.metadata.specs.Schemas.{unknown_server, unknown_schema, schema_taken, too_many_schemas, with_schema, create_schema, create_virtual_schema, set_schema}
 use Rattle.metadata.specs.Options.{refused_option}
 use Rattle.metadata.specs.Servers.{unknown_wrapper, wrong_kind, server_taken, too_many_servers, server_of, with_server, server_over, create_server, connection_named}
-use Rattle.metadata.specs.SoFar.{nothing, schema_named, server_named}
+use Rattle.metadata.specs.SoFar.{nothing, schema_named, server_named, bad_name}
 use Rattle.metadata.specs.Tests.{Test}
 use Rattle.catalog_laws.proofs.DeployGives.{Gives, gives_unless}
+use Rattle.catalog_laws.proofs.LongerLists.{either}
+use Rattle.catalog_laws.proofs.SoundSoFar.{named_below}
 
 -- the server of the schema is one of so many, where it has one
 abbrev pub IsOn : ℕ → SchemaDef → Type 0
@@ -77,23 +78,13 @@ with_server_held s server h =
 server_over_held : (conn : Option ConnInfo) (s : SoFar) (name wrapper : Name) (options : List Setting) → Held s → Gives (server_over conn s name wrapper options) Held
 server_over_held None s name wrapper options h = gives_unless Held (unknown_wrapper wrapper ∷ Some (NoConnection (name_text name.text)) ∷ []) s (λ pass. h)
 server_over_held (Some conn) s name wrapper options h =
-    let tests : List Test = unknown_wrapper wrapper ∷ wrong_kind conn name wrapper ∷ server_taken s.catalog.servers name ∷ refused_option owner.Server options ∷ too_many_servers s.catalog.servers name ∷ [] in
+    let tests : List Test = unknown_wrapper wrapper ∷ wrong_kind conn name wrapper ∷ server_taken s.catalog.servers name ∷ refused_option owner.Server options ∷ too_many_servers s.catalog.servers name ∷ bad_name name.text ∷ [] in
     gives_unless Held tests (with_server s (server_of name options conn)) (λ pass. with_server_held s (server_of name options conn) h)
 
 pub create_server_held : (conns : List ConnInfo) (s : SoFar) (name wrapper : Name) (options : List Setting) → Held s → Gives (create_server conns s name wrapper options) Held
 create_server_held conns s name wrapper options h = server_over_held (connection_named conns name.text) s name wrapper options h
 
 -- one more schema
-
-either : {A : Type 0} (P : A → Type 0) (b : Bool) (x y : A) → P x → P y → P (if b then x else y)
-either P true x y h k = h
-either P false x y h k = k
-
-named_below : (count n : ℕ) (servers : List ServerDef) (name : List ℕ) → n + length servers ≡ count → is_below count (server_named n servers name) ≡ true
-named_below count n [] name is = refl
-named_below count n (server ∷ servers) name is =
-    let here : nat_lt n count ≡ true = grind (arith, nat_tests) in
-    either (λ (at : Option ℕ). is_below count at ≡ true) (same_name server.name name) (Some n) (server_named (n + 1) servers name) here (named_below count (n + 1) servers name (omega arith))
 
 with_schema_held : (s : SoFar) (name : Name) (server : Option ℕ) → Held s → is_below (length s.catalog.servers) server ≡ true → Held (with_schema s name server)
 with_schema_held s name server h below = record {
@@ -105,11 +96,11 @@ with_schema_held s name server h below = record {
 pub create_schema_held : (s : SoFar) (name server : Name) → Held s → Gives (create_schema s name server) Held
 create_schema_held s name server h =
     let number = server_named 0 s.catalog.servers server.text in
-    gives_unless Held (unknown_server s server ∷ schema_taken s name ∷ too_many_schemas s name ∷ []) (with_schema s name number)
+    gives_unless Held (unknown_server s server ∷ schema_taken s name ∷ too_many_schemas s name ∷ bad_name name.text ∷ []) (with_schema s name number)
     (λ pass. with_schema_held s name number h (named_below (length s.catalog.servers) 0 s.catalog.servers server.text (omega arith)))
 
 pub create_virtual_schema_held : (s : SoFar) (name : Name) → Held s → Gives (create_virtual_schema s name) Held
-create_virtual_schema_held s name h = gives_unless Held (schema_taken s name ∷ too_many_schemas s name ∷ []) (with_schema s name None) (λ pass. with_schema_held s name None h refl)
+create_virtual_schema_held s name h = gives_unless Held (schema_taken s name ∷ too_many_schemas s name ∷ bad_name name.text ∷ []) (with_schema s name None) (λ pass. with_schema_held s name None h refl)
 
 -- the schema that is set is one of those that are there
 named_on : (n : ℕ) (schemas : List SchemaDef) (name : List ℕ) → All (IsOn n) schemas → IsSetOn n (schema_named schemas name)

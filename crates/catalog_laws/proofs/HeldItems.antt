@@ -5,12 +5,12 @@ use Rattle.vdb_ddl.specs.declared.tree.Item.TheVariants.{CreateDatabase, UseData
 use Rattle.metadata.specs.declared.connection.ConnInfo.{ConnInfo}
 use Rattle.metadata.specs.declared.so_far.SoFar.{SoFar}
 use Rattle.metadata.specs.Deployed.{item, items, unserved, deployed}
-use Rattle.catalog_laws.specs.Closed.{ClosedQueries}
+use Rattle.walk_laws.specs.Closed.{ClosedQueries}
 use Rattle.catalog_laws.specs.Stacked.{IsStacked, DeployedIsStacked}
 use Rattle.metadata.specs.SoFar.{nothing}
 use Rattle.metadata.specs.Views.{Walk}
 use Rattle.resolver.specs.Queries.{query_walk}
-use Rattle.catalog_laws.proofs.ClosedStatements.{queries_are_closed}
+use Rattle.walk_laws.proofs.ClosedStatements.{queries_are_closed}
 use Rattle.catalog_laws.proofs.DeployGives.{Gives, gives, gives_next, gives_unless}
 use Rattle.catalog_laws.proofs.Held.{Held, nothing_held, create_database_held, use_database_held, create_server_held, create_schema_held, create_virtual_schema_held, set_schema_held}
 use Rattle.catalog_laws.proofs.HeldTables.{create_table_held}

@@ -1,35 +1,23 @@
 -- A table that passes its tests is plain, and its number is its place.
-use Rattle.std.proofs.Common.{◌≡◌, ℕ, ◌+◌, ◌<◌, ◌≤◌, true, false, ◌==◌, List, [], ◌∷◌, ◌++◌, length, Option, Some, None, refl, arith}
-use Rattle.std.specs.Cmp.Derive.{both_true}
+use Rattle.std.proofs.Common.{◌≡◌, ℕ, ◌<◌, true, false, List, length, Option, Some, None, refl, arith}
 use Rattle.std.specs.Option.{is_none, unwrap_or}
-use Rattle.std.proofs.lemmas.Bool.{eq-eqb}
 use Rattle.std.proofs.lemmas.Bool.Decides.{nat_tests}
 use Rattle.std.proofs.lemmas.List.Elements.{All-push}
 use Rattle.vdb_model.specs.declared.catalog.SchemaDef.{SchemaDef}
 use Rattle.vdb_model.specs.declared.table.TableDef.{TableDef}
-use Rattle.vdb_model.specs.WellFormed.{are_placed, is_below}
-use Rattle.view_stack.proofs.NoVariables.{both}
+use Rattle.vdb_model.specs.WellFormed.{is_below}
 use Rattle.sql_reader.specs.declared.tree.name.Name.{Name}
 use Rattle.vdb_ddl.specs.declared.tree.Setting.{Setting}
 use Rattle.vdb_ddl.specs.declared.tree.TablePart.{TablePart}
-use Rattle.vdb_ddl.specs.declared.tree.TablePart.TheVariants.{Column, PrimaryKey}
 use Rattle.metadata.specs.declared.so_far.SoFar.{SoFar}
-use Rattle.metadata.specs.Columns.{column_count, columns_of}
+use Rattle.metadata.specs.Columns.{column_count}
 use Rattle.catalog_laws.specs.Stacked.{IsPlainTable}
-use Rattle.metadata.specs.SoFar.{no_schema_set, schema_set, relation_text}
+use Rattle.metadata.specs.SoFar.{no_schema_set, schema_set}
 use Rattle.metadata.specs.Tables.{table_tests, table_of, with_table, create_table}
-use Rattle.catalog_laws.proofs.DeployGives.{Gives, gives_unless, fails_not, few}
+use Rattle.catalog_laws.proofs.DeployGives.{Gives, gives_unless, fails_not}
 use Rattle.catalog_laws.proofs.Held.{IsSetOn, Held}
-
--- as many columns as are counted
-columns_counted : (all parts : List TablePart) → length (columns_of all parts) ≡ column_count parts
-columns_counted all [] = refl
-columns_counted all (Column name ty not_null options ∷ parts) = let h = columns_counted all parts in omega arith
-columns_counted all (PrimaryKey columns ∷ parts) = columns_counted all parts
-
-placed_more : (n : ℕ) (tables : List TableDef) (table : TableDef) → are_placed n tables ≡ true → table.number ≡ n + length tables → are_placed n (tables ++ table ∷ []) ≡ true
-placed_more n [] table h is = both_true (eq-eqb table.number n (omega arith)) refl
-placed_more n (t ∷ tables) table h is = let c = both (t.number == n) (are_placed (n + 1) tables) h in both_true c.0 (placed_more (n + 1) tables table c.1 (omega arith))
+use Rattle.catalog_laws.proofs.SoundTables.{columns_counted, good_count}
+use Rattle.catalog_laws.proofs.WellTables.{placed_more}
 
 on_server : (servers : ℕ) (server : Option ℕ) → is_below servers server ≡ true → is_none server ≡ false → unwrap_or server 0 < servers
 on_server servers None below there = absurd (cc there)
@@ -54,7 +42,7 @@ with_table_held s table h is plain = record {
 pub create_table_held : (s : SoFar) (name : Name) (parts : List TablePart) (options : List Setting) → Held s → Gives (create_table s name parts options) Held
 create_table_held s name parts options h = gives_unless Held (table_tests s name parts options) (with_table s (table_of s name parts options)) (λ pass.
     let there : is_none (schema_set s).server ≡ false = fails_not (is_none (schema_set s).server) _ pass.1.1.0 in
-    let narrow : column_count parts ≤ 256 = few 256 (column_count parts) (relation_text s name) pass.1.1.1.1.1.1.1.1.1.0 in
+    let narrow = (good_count s name (column_count parts) pass.1.1.1.1.1.1.1.1.1.0).1 in
     let counted = columns_counted parts parts in
     with_table_held s (table_of s name parts options) h refl (record {
       patterns = refl;

@@ -12,7 +12,7 @@ use Rattle.sql_reader.specs.declared.tree.query.Query.{Query}
 use Rattle.vdb_ddl.specs.declared.tree.Setting.{Setting}
 use Rattle.vdb_ddl.specs.declared.tree.ViewColumn.{ViewColumn}
 use Rattle.metadata.specs.declared.so_far.SoFar.{SoFar}
-use Rattle.catalog_laws.specs.Closed.{ClosedQueries, IsClosedOver}
+use Rattle.walk_laws.specs.Closed.{ClosedQueries, IsClosedOver}
 use Rattle.metadata.specs.Tests.{unless}
 use Rattle.metadata.specs.Views.{Walk, walked, chain_of, view_tests, query_tests, view_of, with_view, view_over, create_view}
 use Rattle.catalog_laws.proofs.DeployGives.{Gives, gives, refuses, gives_any, gives_next, gives_unless}

@@ -1,2 +1,2 @@
-pub mod Closed
 pub mod Stacked
+pub mod WellFormed

@@ -1,8 +1,9 @@
-//! What holds of all that is resolved and deployed.
+//! What holds of all that is deployed.
 //!
-//! A resolved query or statement is closed over its catalog: it names only views that are there, and reads no variable
-//! (`specs/Closed`). A deployed catalog is stacked: each view stands on those before it (`specs/Stacked`). So a query over a
-//! deployed catalog can be expanded, as `view_stack` needs it. Nothing is run here: each function is a law, which takes nothing
+//! A deployed catalog is stacked: each view stands on those before it (`specs/Stacked`). So a query over a deployed catalog can
+//! be expanded, as `view_stack` needs it. And it is well formed (`specs/WellFormed`), over the resolver's walk as over any whose
+//! queries are typed: `proofs/Well..` say what each kind of definition has to bring to leave a catalog well formed, and
+//! `proofs/Sound..` that the tests of its item give that. Nothing is run here: each function is a law, which takes nothing
 //! and does nothing, and its contract is the statement. `vdb_session` stands on this crate.
 //!
 //! The tests of `resolver` and `metadata` stand here, over worked texts, so that those crates are proved once.
@@ -14,4 +15,4 @@ mod laws;
 #[cfg(test)]
 mod resolving_tests;
 
-pub use laws::{deployed_is_stacked, queries_are_closed, statements_are_closed};
+pub use laws::{deployed_is_stacked, deployed_is_well_formed, deploys_well};

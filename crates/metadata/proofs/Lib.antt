@@ -1,3 +1,4 @@
 pub mod ChainByKinds
 pub mod Digits
+pub mod Unless
 mod Worked

@@ -5,11 +5,12 @@ use Prim.Native.String.{String}
 use Rattle.vdb_base.specs.declared.value.Value.TheVariants.{Bool as Truth, Num, Str}
 use Rattle.vdb_base.specs.declared.value.Ty.TheVariants as ty
 use Rattle.vdb_model.specs.declared.reply.DeployFault.{DeployFault}
-use Rattle.vdb_model.specs.declared.reply.DeployFault.TheVariants.{Duplicate, Unknown, FractionalType, BadOption, NoConnection, WrongKind}
+use Rattle.vdb_model.specs.declared.reply.DeployFault.TheVariants.{Duplicate, Unknown, FractionalType, BadOption, NoConnection, WrongKind, Limit}
 use Rattle.vdb_model.specs.declared.reply.Refusal.TheVariants.{Syntax}
 use Rattle.vdb_model.specs.declared.source.Caps.{Caps}
 use Rattle.vdb_model.specs.declared.table.Kind.TheVariants.{Mem, Csv}
 use Rattle.vdb_model.specs.Defined.{Defined}
+use Rattle.vdb_model.specs.NameText.{name_text}
 use Rattle.sql_reader.specs.declared.tree.expr.Constant.TheVariants as constant
 use Rattle.sql_reader.specs.declared.tree.name.Name.{Name}
 use Rattle.vdb_ddl.specs.declared.tree.Item.{Item}
@@ -135,6 +136,12 @@ order_34 = refl
 order_35 : (table_in begun (Column (name "x") (name "int") false (string 6 "updatable" "?" ∷ string 7 "nameinsource" "" ∷ []) ∷ []) (string 8 "updatable" "?" ∷ []) ≡ Err (BadOption 7))
     × (table_in begun (column "x" "int" ∷ []) (string 8 "updatable" "?" ∷ string 9 "updatable" "true" ∷ []) ≡ Err (BadOption 8))
 order_35 = (refl, refl)
+
+-- 39: no column; a name without a byte, and 35 before that
+limits : (table_in begun [] [] ≡ Err (Limit (codes "a.t") 0))
+    × (table_in begun (column "x" "int" ∷ column "" "int" ∷ []) [] ≡ Err (Limit (name_text []) 0))
+    × (table_in begun (Column (name "") (name "int") false (string 7 "nameinsource" "" ∷ []) ∷ []) [] ≡ Err (BadOption 7))
+limits = (refl, refl, refl)
 
 -- a server: 33 before 37, 37 before 32, 36 where no connection has its name
 servers : (deployed no_walk (mem "s" ∷ []) (CreateServer (name "s") (name "nosuch") [] ∷ []) ≡ Err (Unknown (codes "nosuch")))

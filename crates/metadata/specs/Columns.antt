@@ -1,5 +1,5 @@
 -- What stands between the commas of a foreign table: its columns, and its primary key.
-use Rattle.std.specs.Prelude.{ℕ, ◌+◌, Bool, true, false, ◌&&◌, ◌||◌, if◌then◌else◌, List, [], ◌∷◌, ◌++◌, Option, Some, None}
+use Rattle.std.specs.Prelude.{ℕ, ◌+◌, Bool, true, false, ◌&&◌, ◌||◌, ◌==◌, if◌then◌else◌, List, [], ◌∷◌, ◌++◌, length, Option, Some, None}
 use Rattle.std.specs.List.{list_any}
 use Rattle.std.specs.Str.{str_to_ascii_lowercase}
 use Rattle.vdb_base.specs.declared.value.Ty.TheVariants.{Boolean}
@@ -13,6 +13,7 @@ use Rattle.vdb_ddl.specs.declared.tree.TablePart.{TablePart}
 use Rattle.vdb_ddl.specs.declared.tree.TablePart.TheVariants.{Column, PrimaryKey}
 use Rattle.metadata.specs.declared.options.Owner.TheVariants as owner
 use Rattle.metadata.specs.Options.{refused_option, source_of}
+use Rattle.metadata.specs.SoFar.{bad_name}
 use Rattle.metadata.specs.Tests.{Test, fails_if, first}
 use Rattle.metadata.specs.Types.{unknown_type, fractional_type, type_of}
 
@@ -60,6 +61,15 @@ abbrev pub option_in : List TablePart → Test
 option_in [] = None
 option_in (part ∷ parts) = first (option_part part ∷ option_in parts ∷ [])
 
+-- 39: a name of a column
+abbrev pub badly_named_part : TablePart → Test
+badly_named_part (Column name ty not_null options) = bad_name name.text
+badly_named_part (PrimaryKey columns) = None
+
+abbrev pub badly_named_in : List TablePart → Test
+badly_named_in [] = None
+badly_named_in (part ∷ parts) = first (badly_named_part part ∷ badly_named_in parts ∷ [])
+
 abbrev pub names : List ℕ → Name → Bool
 names text name = same_name name.text text
 
@@ -89,11 +99,11 @@ abbrev pub places_of : List ColumnDef → List Name → List ℕ
 places_of columns [] = []
 places_of columns (name ∷ names) = place_from 0 columns name.text ∷ places_of columns names
 
--- the columns of the primary key by their places
+-- the columns of the primary key by their places; one without columns is no key
 abbrev pub key_of : List ColumnDef → List TablePart → Option (List ℕ)
 key_of columns [] = None
 key_of columns (Column name ty not_null options ∷ parts) = key_of columns parts
-key_of columns (PrimaryKey names ∷ parts) = Some (places_of columns names)
+key_of columns (PrimaryKey names ∷ parts) = if length names == 0 then key_of columns parts else Some (places_of columns names)
 
 -- source names are one in lower case
 abbrev pub is_one_source : List ℕ → List ℕ → Bool

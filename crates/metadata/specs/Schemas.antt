@@ -6,7 +6,7 @@ use Rattle.vdb_model.specs.declared.reply.DeployFault.TheVariants.{Duplicate, Un
 use Rattle.vdb_model.specs.NameText.{name_text}
 use Rattle.sql_reader.specs.declared.tree.name.Name.{Name}
 use Rattle.metadata.specs.declared.so_far.SoFar.{SoFar}
-use Rattle.metadata.specs.SoFar.{schema_named, server_named, too_many}
+use Rattle.metadata.specs.SoFar.{schema_named, server_named, too_many, bad_name}
 use Rattle.metadata.specs.Tests.{Test, fails_if, unless}
 
 -- 33: the server isn't there
@@ -33,6 +33,7 @@ create_schema s name server = unless (
     unknown_server s server  -- 33
     ∷ schema_taken s name  -- 32
     ∷ too_many_schemas s name  -- 39
+    ∷ bad_name name.text  -- 39
     ∷ []) (with_schema s name (server_named 0 s.catalog.servers server.text))
 
 -- a virtual schema has no server
@@ -40,6 +41,7 @@ abbrev pub create_virtual_schema : SoFar → Name → Result SoFar DeployFault
 create_virtual_schema s name = unless (
     schema_taken s name  -- 32
     ∷ too_many_schemas s name  -- 39
+    ∷ bad_name name.text  -- 39
     ∷ []) (with_schema s name None)
 
 abbrev pub set_schema : SoFar → Name → Result SoFar DeployFault

@@ -14,7 +14,7 @@ use Rattle.metadata.specs.declared.connection.ConnInfo.{ConnInfo}
 use Rattle.metadata.specs.declared.options.Owner.TheVariants as owner
 use Rattle.metadata.specs.Options.{refused_option, lowered}
 use Rattle.metadata.specs.declared.so_far.SoFar.{SoFar}
-use Rattle.metadata.specs.SoFar.{too_many}
+use Rattle.metadata.specs.SoFar.{too_many, bad_name}
 use Rattle.metadata.specs.Tests.{Test, fails_if, unless}
 
 -- a wrapper's name is that of a kind
@@ -68,6 +68,7 @@ server_over (Some conn) s name wrapper options = unless (
     ∷ server_taken s.catalog.servers name  -- 32
     ∷ refused_option owner.Server options  -- 35
     ∷ too_many_servers s.catalog.servers name  -- 39
+    ∷ bad_name name.text  -- 39
     ∷ []) (with_server s (server_of name options conn))
 
 abbrev pub create_server : List ConnInfo → SoFar → Name → Name → List Setting → Result SoFar DeployFault

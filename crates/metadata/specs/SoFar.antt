@@ -1,5 +1,5 @@
 -- What the items so far define, and what their names mean.
-use Rattle.std.specs.Prelude.{ℕ, ◌+◌, Bool, false, ◌&&◌, ◌||◌, nat_lt, if◌then◌else◌, List, [], ◌∷◌, length, Option, Some, None}
+use Rattle.std.specs.Prelude.{ℕ, ◌+◌, Bool, false, not, ◌&&◌, ◌||◌, nat_le, nat_lt, if◌then◌else◌, List, [], ◌∷◌, length, Option, Some, None}
 use Rattle.std.specs.List.{list_any}
 use Rattle.std.specs.Option.{is_none, unwrap_or}
 use Rattle.vdb_model.specs.declared.catalog.ProcedureDef.{ProcedureDef}
@@ -11,6 +11,7 @@ use Rattle.vdb_model.specs.declared.table.TableDef.{TableDef}
 use Rattle.vdb_model.specs.Defined.{Defined, nothing_defined}
 use Rattle.vdb_model.specs.Defs.{same_name}
 use Rattle.vdb_model.specs.NameText.{name_text, dotted}
+use Rattle.vdb_model.specs.WellFormed.{is_name}
 use Rattle.sql_reader.specs.declared.tree.name.Name.{Name}
 use Rattle.metadata.specs.declared.so_far.SoFar.{SoFar}
 use Rattle.metadata.specs.Tests.{Test, fails_if}
@@ -79,6 +80,10 @@ too_many limit count name = fails_if (nat_lt limit count) (Limit name count)
 abbrev pub too_many_relations : SoFar → Name → Test
 too_many_relations s name = too_many 1024 (length s.catalog.tables + length s.catalog.views + 1) (relation_text s name)
 
--- 39: at most 256 columns of one relation
-abbrev pub too_many_columns : SoFar → Name → ℕ → Test
-too_many_columns s name count = too_many 256 count (relation_text s name)
+-- 39: 1 to 256 columns of one relation
+abbrev pub bad_column_count : SoFar → Name → ℕ → Test
+bad_column_count s name count = fails_if (not (nat_le 1 count && nat_le count 256)) (Limit (relation_text s name) count)
+
+-- 39: a name of no byte, or of more than 64
+abbrev pub bad_name : List ℕ → Test
+bad_name name = fails_if (not (is_name name)) (Limit (name_text name) (length name))

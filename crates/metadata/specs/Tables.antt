@@ -11,11 +11,11 @@ use Rattle.vdb_model.specs.declared.table.TableDef.{TableDef}
 use Rattle.sql_reader.specs.declared.tree.name.Name.{Name}
 use Rattle.vdb_ddl.specs.declared.tree.Setting.{Setting}
 use Rattle.vdb_ddl.specs.declared.tree.TablePart.{TablePart}
-use Rattle.metadata.specs.Columns.{column_count, unknown_in, fractional_in, option_in, taken_in, columns_of, key_of, is_one_source}
+use Rattle.metadata.specs.Columns.{column_count, unknown_in, fractional_in, option_in, taken_in, badly_named_in, columns_of, key_of, is_one_source}
 use Rattle.metadata.specs.declared.options.Owner.TheVariants as owner
 use Rattle.metadata.specs.Options.{refused_option, source_of, is_updatable}
 use Rattle.metadata.specs.declared.so_far.SoFar.{SoFar}
-use Rattle.metadata.specs.SoFar.{schema_set, relation_text, no_schema, is_taken, too_many_relations, too_many_columns}
+use Rattle.metadata.specs.SoFar.{schema_set, relation_text, no_schema, is_taken, too_many_relations, bad_column_count, bad_name}
 use Rattle.metadata.specs.Tests.{Test, fails_if, unless}
 
 -- where no server has the number
@@ -64,7 +64,9 @@ table_tests s name parts options =
     ∷ option_in parts  -- 35
     ∷ refused_option owner.Table options  -- 35
     ∷ too_many_relations s name  -- 39
-    ∷ too_many_columns s name (column_count parts)  -- 39
+    ∷ bad_column_count s name (column_count parts)  -- 39
+    ∷ bad_name name.text  -- 39
+    ∷ badly_named_in parts  -- 39
     ∷ []
 
 -- A table's number is its place. No part is an access pattern yet.

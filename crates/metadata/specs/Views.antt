@@ -23,7 +23,7 @@ use Rattle.vdb_ddl.specs.declared.tree.ViewColumn.{ViewColumn}
 use Rattle.metadata.specs.declared.options.Owner.TheVariants as owner
 use Rattle.metadata.specs.Options.{refused_option, is_updatable}
 use Rattle.metadata.specs.declared.so_far.SoFar.{SoFar}
-use Rattle.metadata.specs.SoFar.{schema_set, relation_text, no_schema, relation_taken, too_many, too_many_relations, too_many_columns}
+use Rattle.metadata.specs.SoFar.{schema_set, relation_text, no_schema, relation_taken, too_many, too_many_relations, bad_column_count, bad_name}
 use Rattle.metadata.specs.Tests.{Test, fails_if, first, unless, next}
 use Rattle.metadata.specs.Types.{unknown_type, fractional_type, type_of}
 
@@ -95,6 +95,11 @@ fits_list (Some columns) tys = length columns == length tys && are_listed 0 tys 
 abbrev pub bad_columns : SoFar → Name → Option (List ViewColumn) → Ranked → Test
 bad_columns s name columns query = fails_if (not (fits_list columns query.tys && are_apart (view_columns columns query))) (Columns (relation_text s name))
 
+-- 39: the first name of a column that isn't of 1 to 64 bytes
+abbrev pub badly_named_in : List VarDef → Test
+badly_named_in [] = None
+badly_named_in (column ∷ columns) = first (bad_name column.name ∷ badly_named_in columns ∷ [])
+
 -- how many views stand over one another from this one on, which is one more than the longest chain below it
 abbrev pub chain_of : SoFar → Ranked → ℕ
 chain_of s query = chain_below s.chains query.rel + 1
@@ -126,7 +131,9 @@ abbrev pub query_tests : SoFar → Name → Option (List ViewColumn) → Ranked 
 query_tests s name columns query =
     bad_columns s name columns query  -- 38
     ∷ too_many_relations s name  -- 39
-    ∷ too_many_columns s name (length (view_columns columns query))  -- 39
+    ∷ bad_column_count s name (length (view_columns columns query))  -- 39
+    ∷ bad_name name.text  -- 39
+    ∷ badly_named_in (view_columns columns query)  -- 39
     ∷ too_long_a_chain s name query  -- 39
     ∷ too_many_nodes s name query  -- 39
     ∷ too_deep s name query  -- 39

@@ -121,7 +121,7 @@ fn places_of(alloc: Global, columns: &[ColumnDef], names: &[Name]) -> Result<Num
     Ok(made)
 }
 
-/// The columns of the primary key by their places.
+/// The columns of the primary key by their places; one without columns is no key.
 pub(crate) fn key_of(
     alloc: Global,
     columns: &[ColumnDef],
@@ -133,7 +133,9 @@ pub(crate) fn key_of(
         match part {
             TablePart::Column { .. } => {}
             TablePart::PrimaryKey { columns: names } => {
-                return Ok(Some(places_of(alloc, columns, names.as_slice())?));
+                if names.len() != 0 {
+                    return Ok(Some(places_of(alloc, columns, names.as_slice())?));
+                }
             }
         }
     }

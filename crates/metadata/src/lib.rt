@@ -6,10 +6,13 @@
 //! `Tables` with `Columns`, `Views`; `Options` and `Types` say what options and types are. Want of memory is an answer of its own,
 //! and no contract says when it comes; a number past 32 bits counts as one.
 //!
+//! Items may be any, also such as no text reads to: a name that is defined has 1 to 64 bytes and a relation 1 to 256 columns, or
+//! their limit is the fault, and a PRIMARY KEY without columns gives no key.
+//!
 //! The query of a view is typed by the resolver. `deploy_by` is the same over any `ViewWalk`, whose refusal's number the fault
-//! carries. That a deployed catalog is well formed isn't proved yet. Procedures, triggers and access patterns have no items yet.
-//! Names are looked up by going through lists: an item takes time in the number of relations, and a relation's columns are
-//! compared with each other, which takes long only in an item that is refused, since others have 256 columns at most.
+//! carries. What is deployed is a well-formed catalog, as `catalog_laws` proves. Procedures, triggers and access patterns have no
+//! items yet. Names are looked up by going through lists: an item takes time in the number of relations, and a relation's columns
+//! are compared with each other, which takes long only in an item that is refused, since others have 256 columns at most.
 #![tactic(auto)]
 
 mod chains;

@@ -8,6 +8,7 @@ ghost use Rattle.metadata.specs.Columns as spec;
 use crate::columns::has_column;
 use crate::fault::DeployRefusal;
 use crate::options::{Owner, source_of, taken_options};
+use crate::so_far::good_name;
 use crate::types::{known_type, whole_type};
 use sql_reader::tree::Name;
 use std::alloc::Global;
@@ -82,6 +83,25 @@ pub(crate) fn taken_parts(parts: &[TablePart]) -> Result<(), DeployRefusal>
 {
     for part in parts {
         taken_part(part)?;
+    }
+    Ok(())
+}
+
+fn named_part(alloc: Global, part: &TablePart) -> Result<(), DeployRefusal>
+    ensures { Passes (spec.badly_named_part part.now) result }
+{
+    match part {
+        TablePart::Column { name, .. } => good_name(alloc, &name.text),
+        TablePart::PrimaryKey { .. } => Ok(()),
+    }
+}
+
+/// Refused at the first name of a column that hasn't 1 to 64 bytes.
+pub(crate) fn named_parts(alloc: Global, parts: &[TablePart]) -> Result<(), DeployRefusal>
+    ensures { Passes (spec.badly_named_in parts.now) result }
+{
+    for part in parts {
+        named_part(alloc, part)?;
     }
     Ok(())
 }

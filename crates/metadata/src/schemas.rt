@@ -6,7 +6,7 @@ ghost use Rattle.metadata.specs.Schemas as spec;
 ghost use Rattle.metadata.specs.SoFar.{schema_named, server_named};
 
 use crate::fault::DeployRefusal;
-use crate::so_far::{SoFar, added, few, find_schema, find_server, number};
+use crate::so_far::{SoFar, added, few, find_schema, find_server, good_name, number};
 use sql_reader::tree::Name;
 use std::alloc::Global;
 use vdb_base::NoMemory;
@@ -86,6 +86,7 @@ pub(crate) fn create_schema(
     known_server(alloc, s, server)?;
     free_schema(alloc, s, name)?;
     few_schemas(alloc, s, name)?;
+    good_name(alloc, &name.text)?;
     let server = numbered_server(s, server)?;
     Ok(add_schema(alloc, s, name, server)?)
 }
@@ -99,6 +100,7 @@ pub(crate) fn create_virtual_schema(
 {
     free_schema(alloc, s, name)?;
     few_schemas(alloc, s, name)?;
+    good_name(alloc, &name.text)?;
     Ok(add_schema(alloc, s, name, None)?)
 }
 

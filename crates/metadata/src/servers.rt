@@ -9,7 +9,7 @@ ghost use Rattle.metadata.specs.Servers as spec;
 use crate::connection::{ConnInfo, ConnInfos};
 use crate::fault::DeployRefusal;
 use crate::options::{Owner, lowered, taken_options};
-use crate::so_far::{SoFar, added, few};
+use crate::so_far::{SoFar, added, few, good_name};
 use sql_reader::tree::Name;
 use std::alloc::Global;
 use vdb_base::{NoMemory, Text};
@@ -130,5 +130,6 @@ pub(crate) fn create_server(
     free_server(alloc, s.catalog.servers(), name)?;
     taken_options(Owner::Server, options)?;
     few_servers(alloc, s.catalog.servers(), name)?;
+    good_name(alloc, &name.text)?;
     Ok(add_server(alloc, s, name, options, conn)?)
 }

@@ -5,6 +5,7 @@ ghost use Rattle.std.specs.List.{list_any};
 ghost use Rattle.std.specs.Option.{is_none, is_some, option_copied};
 ghost use Rattle.metadata.specs.Answers.{Passes};
 ghost use Rattle.metadata.specs.SoFar as spec;
+ghost use Rattle.vdb_model.specs.WellFormed.{is_name};
 
 use crate::fault::DeployRefusal;
 use sql_reader::tree::Name;
@@ -131,6 +132,24 @@ pub(crate) fn few(limit: u64, count: u64, name: Text) -> Result<(), DeployRefusa
     Ok(())
 }
 
+fn is_name(name: &Text) -> bool
+    ensures { result ≡ is_name name.now }
+{
+    1 <= name.len() && name.len() <= 64
+}
+
+/// Refused where a name hasn't 1 to 64 bytes.
+pub(crate) fn good_name(alloc: Global, name: &Text) -> Result<(), DeployRefusal>
+    ensures { Passes (spec.bad_name name.now) result }
+{
+    if !is_name(name) {
+        let count = name.len() as u64;
+        let name = printed(alloc, name)?;
+        return Err(DeployRefusal::Refused(DeployFault::Limit { name, count }));
+    }
+    Ok(())
+}
+
 impl SoFar {
     /// A relation of the schema that is set, as it is printed.
     pub(crate) fn relation_text(&self, alloc: Global, name: &Name) -> Result<Text, NoMemory>
@@ -162,16 +181,21 @@ impl SoFar {
         few(1024, count as u64, self.relation_text(alloc, name)?)
     }
 
-    /// Refused where a relation has too many columns.
-    pub(crate) fn few_columns(
+    /// Refused where a relation has no column or too many.
+    pub(crate) fn good_column_count(
         &self,
         alloc: Global,
         name: &Name,
         count: usize,
     ) -> Result<(), DeployRefusal>
-        ensures { Passes (spec.too_many_columns self.now name.now count) result }
+        ensures { Passes (spec.bad_column_count self.now name.now count) result }
     {
-        few(256, count as u64, self.relation_text(alloc, name)?)
+        if !(1 <= count && count <= 256) {
+            let name = self.relation_text(alloc, name)?;
+            let count = count as u64;
+            return Err(DeployRefusal::Refused(DeployFault::Limit { name, count }));
+        }
+        Ok(())
     }
 
     /// Whether the schema that is set has a relation or a procedure of the name.

@@ -9,8 +9,8 @@ ghost use Rattle.metadata.specs.Tests.{first};
 use crate::columns::{column_count, columns_of, key_of};
 use crate::fault::DeployRefusal;
 use crate::options::{Owner, is_updatable, source_of, taken_options};
-use crate::parts::{free_parts, is_one_source, known_parts, taken_parts, whole_parts};
-use crate::so_far::{SoFar, number};
+use crate::parts::{free_parts, is_one_source, known_parts, named_parts, taken_parts, whole_parts};
+use crate::so_far::{SoFar, good_name, number};
 use sql_reader::tree::Name;
 use std::alloc::Global;
 use vdb_base::{NoMemory, Seq, Text};
@@ -140,7 +140,9 @@ fn sound_table(
     taken_parts(parts)?;
     taken_options(Owner::Table, options)?;
     s.few_relations(alloc, name)?;
-    s.few_columns(alloc, name, column_count(parts))
+    s.good_column_count(alloc, name, column_count(parts))?;
+    good_name(alloc, &name.text)?;
+    named_parts(alloc, parts)
 }
 
 pub(crate) fn create_table(

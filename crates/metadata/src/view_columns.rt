@@ -8,6 +8,7 @@ ghost use Rattle.metadata.specs.Views as spec;
 ghost use Rattle.vdb_model.specs.Typed as typed;
 
 use crate::fault::DeployRefusal;
+use crate::so_far::good_name;
 use crate::types::{known_type, type_of, whole_type};
 use sql_reader::tree::Name;
 use std::alloc::Global;
@@ -154,6 +155,16 @@ pub(crate) fn are_apart(columns: &[VarDef]) -> bool
         left = others;
     }
     true
+}
+
+/// Refused at the first name of a column that hasn't 1 to 64 bytes.
+pub(crate) fn named_well(alloc: Global, columns: &[VarDef]) -> Result<(), DeployRefusal>
+    ensures { Passes (spec.badly_named_in columns.now) result }
+{
+    for column in columns {
+        good_name(alloc, &column.name)?;
+    }
+    Ok(())
 }
 
 /// One type, or numbers of which the second is as wide.

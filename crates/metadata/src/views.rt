@@ -10,8 +10,10 @@ ghost use Rattle.vdb_model.specs.Sizes.{nodes_of, depth_of};
 use crate::chains::chain_below;
 use crate::fault::DeployRefusal;
 use crate::options::{Owner, is_updatable, taken_options};
-use crate::so_far::{SoFar, few, number};
-use crate::view_columns::{are_apart, fits_list, known_types, view_columns, whole_types};
+use crate::so_far::{SoFar, few, good_name, number};
+use crate::view_columns::{
+    are_apart, fits_list, known_types, named_well, view_columns, whole_types,
+};
 use crate::walk::{ViewWalk, WalkFault};
 use sql_reader::tree::{Name, Query};
 use std::alloc::Global;
@@ -143,7 +145,9 @@ fn view_of(
     let made = view_columns(alloc, columns, &query)?;
     good_columns(alloc, s, name, columns, &query, &made)?;
     s.few_relations(alloc, name)?;
-    s.few_columns(alloc, name, made.len())?;
+    s.good_column_count(alloc, name, made.len())?;
+    good_name(alloc, &name.text)?;
+    named_well(alloc, made.as_slice())?;
     short_chain(alloc, s, name, chain_below(s.chains.as_slice(), &query.rel))?;
     let size = size_of(s, &query)?;
     few_nodes(alloc, s, name, size)?;

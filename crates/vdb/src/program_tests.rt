@@ -447,7 +447,16 @@ fn nests_at_most_64_levels(rt: HostRuntime) -> Result<(), Fail> {
         let close = ")".repeat(alloc, levels)?;
         let script = format!(in alloc; "SELECT {open}1{close} AS a;")?;
         assert_eq!(rt;
-            run(&rt, alloc, WORDS, DDL, CUST.as_slice(), script.as_str(), NONE)?.as_str(),
+            run(
+                &rt,
+                alloc,
+                WORDS,
+                DDL,
+                CUST.as_slice(),
+                script.as_str(),
+                NONE
+            )?
+            .as_str(),
             wanted,
             "at {levels} levels"
         );

@@ -9,7 +9,7 @@ use Rattle.vdb_model.specs.Defined.{Defined}
 use Rattle.vdb_model.specs.Rows.{Cells}
 use Rattle.vdb_model.specs.Stacked.{names_first}
 use Rattle.vdb_model.specs.World.{rows_in}
-use Rattle.catalog_laws.specs.Closed.{StatementsAreClosed}
+use Rattle.walk_laws.specs.Closed.{StatementsAreClosed}
 use Rattle.resource.specs.declared.lane.Lane.{Lane}
 use Rattle.resource.specs.Told.{Told, unasked}
 use Rattle.vdb_session.specs.declared.answering.Answer.{Answer}

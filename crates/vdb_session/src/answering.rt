@@ -11,11 +11,11 @@ ghost use Rattle.vdb_session.specs.Shown.{world_by, sees};
 
 use crate::fetching::FetchFault;
 use crate::queries::{NoQuery, read_query, rows_of};
-use catalog_laws::statements_are_closed;
 use resource::{Lane, Lanes, Resource};
 use std::alloc::Global;
 use vdb_base::{Rows, Texts};
 use vdb_model::{Catalog, Ranked, Reply};
+use walk_laws::statements_are_closed;
 
 /// The answer to a statement.
 #[derive(Drop)]

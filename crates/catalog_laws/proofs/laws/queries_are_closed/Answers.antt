@@ -1,5 +1,0 @@
-use Rattle.catalog_laws.proofs.ClosedStatements.{queries_are_closed}
-use Rattle.catalog_laws.proofs.laws.queries_are_closed.Goals as goal
-
-pub returns : goal.returns
-returns c = queries_are_closed

@@ -1,5 +1,0 @@
-use Rattle.catalog_laws.proofs.ClosedStatements.{statements_are_closed}
-use Rattle.catalog_laws.proofs.laws.statements_are_closed.Goals as goal
-
-pub returns : goal.returns
-returns c = statements_are_closed
