@@ -22,7 +22,7 @@ flipped Less = refl
 flipped Equal = refl
 flipped Greater = refl
 
-same_row-sym : (a b : Cells) → same_row a b ≡ same_row b a
+pub same_row-sym : (a b : Cells) → same_row a b ≡ same_row b a
 same_row-sym a b = ap is_eq (row_total.antisymm a b) ∙ flipped (row_cmp b a)
 
 or_false : (b : Bool) → (b || false) ≡ b

@@ -9,6 +9,8 @@ pub mod RanksOfRows
 pub mod OneOrder
 pub mod Grouped
 pub mod Totals
+pub mod Entries
+pub mod SameKeys
 pub mod Indexing
 pub mod Forced
 pub mod Matching

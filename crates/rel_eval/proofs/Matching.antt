@@ -47,9 +47,9 @@ module _ (on : Expr) (vars left : Cells) where
       at false false e f ih = ih
 
   pub matched_by_index : (rights : List Cells) (side : Side) → Serves on rights side → length left ≡ side.width → matches on vars left (candidates side left) ≡ matches on vars left rights
-  matched_by_index rights side s w = at (list_any is_null (cut side.equal.lefts left)) refl
+  matched_by_index rights side s w = at (list_any is_null (cut side.equal.now.lefts left)) refl
     where
-      at : (b : Bool) → list_any is_null (cut side.equal.lefts left) ≡ b
-          → matches on vars left (if b then [] else under side.index (cut side.equal.lefts left)) ≡ matches on vars left rights
+      at : (b : Bool) → list_any is_null (cut side.equal.now.lefts left) ≡ b
+          → matches on vars left (if b then [] else under side.index (cut side.equal.now.lefts left)) ≡ matches on vars left rights
       at true e = sym (none_matches rights (λ right p. true≢false (sym e ∙ (s.forced left right vars w p).1)))
-      at false e = ap (matches on vars left) (s.indexed (cut side.equal.lefts left)) ∙ among_members side.equal.rights (cut side.equal.lefts left) rights (λ right p. (s.forced left right vars w p).0)
+      at false e = ap (matches on vars left) (s.indexed (cut side.equal.now.lefts left)) ∙ among_members side.equal.now.rights (cut side.equal.now.lefts left) rights (λ right p. (s.forced left right vars w p).0)

@@ -1,4 +1,5 @@
 pub mod Equal
+pub mod Fed
 pub mod Held
 pub mod Indexed
 pub mod Lent
@@ -8,3 +9,4 @@ pub mod Sums
 pub mod Unions
 pub mod Ranks
 pub mod RankedRows
+pub mod RowKeys

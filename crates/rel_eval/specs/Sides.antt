@@ -13,9 +13,9 @@ use Rattle.rel_eval.specs.Lent.{lent}
 -- it has the right rows, also by the columns that the condition needs to be equal
 pub record Serves (on : Expr) (rights : List Cells) (side : Side) : Type 0 where
   pub rows : lent side.rows.items ≡ rights
-  pub forced : IsForced on side.width side.equal.lefts side.equal.rights
-  pub indexed : (key : Cells) → under side.index key ≡ members side.equal.rights key rights
+  pub forced : IsForced on side.width side.equal.now.lefts side.equal.now.rights
+  pub indexed : (key : Cells) → under side.index key ≡ members side.equal.now.rights key rights
 
 -- the right rows that the index has for a left row
 abbrev pub candidates : Side → Cells → List Cells
-candidates side left = if list_any is_null (cut side.equal.lefts left) then [] else under side.index (cut side.equal.lefts left)
+candidates side left = if list_any is_null (cut side.equal.now.lefts left) then [] else under side.index (cut side.equal.now.lefts left)

@@ -6,11 +6,12 @@ ghost use Rattle.vdb_model.specs.Number.{number};
 ghost use Rattle.vdb_model.specs.Rows.{cut_rows, distinct_rows};
 ghost use Rattle.rel_eval.specs.Indexed.{under};
 ghost use Rattle.rel_eval.specs.Lent.{lent};
+ghost use Rattle.rel_eval.specs.RowKeys.{cells};
 
 use crate::index::Index;
-use crate::lend::{cut, lend};
+use crate::lend::lend;
 use crate::logic::is_null;
-use crate::rows::distinct;
+use crate::row_key::RowKey;
 use crate::sum::sum_of;
 use crate::value::eval;
 use std::alloc::Global;
@@ -108,16 +109,6 @@ fn group_row(
     Ok(key)
 }
 
-fn cut_all(alloc: Global, rows: &Rows, keys: &[u32]) -> Result<Rows, NoMemory>
-    ensures { IfOk result (λ made. made ≡ cut_rows keys.now rows.now) }
-{
-    let mut made = Vec::with_capacity(alloc, rows.len())?;
-    for row in rows.as_slice() {
-        made.push(cut(alloc, row, keys)?)?;
-    }
-    Ok(Seq::from_vec(made))
-}
-
 /// One row for all rows, also where there is none.
 #[tactic(auto, using(crate::proofs::Grouped::without_keys))]
 fn whole(alloc: Global, rows: &Rows, aggs: &[Agg], vars: &Row) -> Result<Rows, NoMemory>
@@ -128,22 +119,22 @@ fn whole(alloc: Global, rows: &Rows, aggs: &[Agg], vars: &Row) -> Result<Rows, N
     Ok(made)
 }
 
-fn group_of(
+fn group_of<'a>(
     alloc: Global,
-    index: &Index<'_>,
-    key: Row,
+    index: &Index<'a>,
+    key: &RowKey<'a>,
     aggs: &[Agg],
     vars: &Row,
 ) -> Result<Row, NoMemory>
-    ensures { IfOk result (λ row. row ≡ key ++ spec.aggregates aggs.now vars.now (under index.now key)) }
+    ensures { IfOk result (λ row. row ≡ cells key.now ++ spec.aggregates aggs.now vars.now (under index.now (cells key.now))) }
 {
-    match index.find(&key) {
-        Some(rows) => group_row(alloc, key, aggs, vars, rows),
-        None => group_row(alloc, key, aggs, vars, &[]),
+    let first = key.copy(alloc)?;
+    match index.find(key) {
+        Some(rows) => group_row(alloc, first, aggs, vars, rows),
+        None => group_row(alloc, first, aggs, vars, &[]),
     }
 }
 
-#[tactic(auto, using(crate::proofs::Grouped::groups_more))]
 fn by_keys(
     alloc: Global,
     rows: &Rows,
@@ -154,9 +145,9 @@ fn by_keys(
     ensures { IfOk result (λ made. made ≡ spec.rows_by_group keys.now aggs.now vars.now rows.now (distinct_rows (cut_rows keys.now rows.now))) }
 {
     let index = Index::of(alloc, rows, keys)?;
-    let groups = distinct(alloc, &cut_all(alloc, rows, keys)?)?;
+    let groups = index.keys();
     let mut made = Vec::with_capacity(alloc, groups.len())?;
-    for key in groups.into_vec() {
+    for key in groups {
         made.push(group_of(alloc, &index, key, aggs, vars)?)?;
     }
     Ok(Seq::from_vec(made))

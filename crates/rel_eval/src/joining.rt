@@ -2,16 +2,19 @@
 
 ghost use Rattle.std.specs.Prelude.{◌≡◌, ◌++◌, IfOk, replicate};
 ghost use Rattle.vdb_base.specs.declared.value.Value.TheVariants.{Null};
+ghost use Rattle.vdb_model.specs.declared.expr.Expr.{Expr};
 ghost use Rattle.vdb_model.specs.Rows as spec;
 ghost use Rattle.std.specs.Option.{option_copied};
+ghost use Rattle.rel_eval.specs.Equal.{IsForced};
 ghost use Rattle.rel_eval.specs.Indexed.{listed};
 ghost use Rattle.rel_eval.specs.Lent.{lent};
 ghost use Rattle.rel_eval.specs.Sides.{Serves, candidates};
 
 use crate::equalities::{Equalities, forced_by};
 use crate::index::Index;
-use crate::lend::{cut, lend};
-use crate::logic::{has_null, is_true};
+use crate::lend::lend;
+use crate::logic::is_true;
+use crate::row_key::RowKey;
 use crate::value::eval_over;
 use std::alloc::Global;
 use vdb_base::{NoMemory, Row, Rows, Seq, Value};
@@ -21,11 +24,14 @@ use vdb_model::{Expr, JoinKind};
 fn beside(alloc: Global, left: &Row, right: &Row) -> Result<Row, NoMemory>
     ensures { IfOk result (λ row. row ≡ left.now ++ right.now) }
 {
-    let mut row = left.copy(alloc)?;
+    let mut row = Vec::with_capacity(alloc, left.len().saturating_add(right.len()))?;
+    for v in left.as_slice() {
+        row.push(v.copy(alloc)?)?;
+    }
     for v in right.as_slice() {
         row.push(v.copy(alloc)?)?;
     }
-    Ok(row)
+    Ok(Seq::from_vec(row))
 }
 
 /// A row with NULLs behind it.
@@ -76,26 +82,33 @@ fn matches(
     Ok(rows)
 }
 
+/// The width that left rows have, by the first of them.
+fn width_of(left: &Rows) -> usize {
+    match left.get(0) {
+        Some(row) => row.len(),
+        None => 0,
+    }
+}
+
 /// The right side of a join, and how the rows of it that can match a left row are found.
 #[derive(Drop)]
 struct Side<'a> {
     rows: Vec<&'a Row>,
-    /// The width that left rows have, by the first of them.
     width: usize,
-    equal: Equalities,
+    equal: &'a Equalities,
     index: Index<'a>,
 }
 
-fn side_of<'a>(alloc: Global, left: &Rows, right: &'a Rows, on: &Expr) -> Result<Side<'a>, NoMemory>
-    ensures { IfOk result (λ side. Serves on.now right.now side) }
+fn side_of<'a>(
+    alloc: Global,
+    right: &'a Rows,
+    width: usize,
+    equal: &'a Equalities,
+) -> Result<Side<'a>, NoMemory>
+    ensures { IfOk result (λ side. (on : Expr) → IsForced on width equal.now.lefts equal.now.rights → Serves on right.now side) }
 {
-    let width = match left.get(0) {
-        Some(row) => row.len(),
-        None => 0,
-    };
-    let equal = forced_by(alloc, on, width)?;
-    let index = Index::of(alloc, right, equal.rights.as_slice())?;
     let rows = lend(alloc, right)?;
+    let index = Index::of(alloc, right, equal.rights.as_slice())?;
     Ok(Side {
         rows,
         width,
@@ -105,30 +118,26 @@ fn side_of<'a>(alloc: Global, left: &Rows, right: &'a Rows, on: &Expr) -> Result
 }
 
 /// The right rows whose cells equal those of the left row as they have to. NULL equals nothing.
-fn candidates<'a, 'b>(
-    alloc: Global,
-    left: &Row,
-    side: &'b Side<'a>,
-) -> Result<Option<&'b Vec<&'a Row>>, NoMemory>
-    ensures { IfOk result (λ rows. listed (option_copied rows) ≡ candidates side.now left.now) }
+fn candidates<'a, 'b>(left: &'a Row, side: &'b Side<'a>) -> Option<&'b Vec<&'a Row>>
+    ensures { listed (option_copied result) ≡ candidates side.now left.now }
 {
-    let key = cut(alloc, left, side.equal.lefts.as_slice())?;
-    if has_null(key.as_slice()) {
-        Ok(None)
+    let key = RowKey::of(left, side.equal.lefts.as_slice());
+    if key.has_null() {
+        None
     } else {
-        Ok(side.index.find(&key))
+        side.index.find(&key)
     }
 }
 
 /// The left row with each right row at which the condition is TRUE. Left rows of another width than the first are tried
 /// with each right row.
-fn matched(
+fn matched<'a>(
     alloc: Global,
     on: &Expr,
     vars: &Row,
-    left: &Row,
+    left: &'a Row,
     right: &Rows,
-    side: &Side<'_>,
+    side: &Side<'a>,
 ) -> Result<Rows, NoMemory>
     requires { Serves on.now right.now side.now }
     ensures { IfOk result (λ rows. rows ≡ spec.matches on.now vars.now left.now right.now) }
@@ -136,7 +145,7 @@ fn matched(
     if left.len() != side.width {
         return matches(alloc, on, vars, left, &side.rows);
     }
-    match candidates(alloc, left, side)? {
+    match candidates(left, side) {
         Some(rows) => matches(alloc, on, vars, left, rows),
         None => Ok(Seq::new(alloc)),
     }
@@ -173,7 +182,9 @@ pub fn join(
 ) -> Result<Rows, NoMemory>
     ensures { IfOk result (λ rows. rows ≡ spec.join_rows kind right_width on.now vars.now left.now right.now) }
 {
-    let side = side_of(alloc, left, right, on)?;
+    let width = width_of(left);
+    let equal = forced_by(alloc, on, width)?;
+    let side = side_of(alloc, right, width, &equal)?;
     let mut rows = Seq::new(alloc);
     for row in left.as_slice() {
         let found = matched(alloc, on, vars, row, right, &side)?;

@@ -6,7 +6,7 @@ ghost use Rattle.rel_eval.specs.Lent.{lent};
 
 use crate::value::cell;
 use std::alloc::Global;
-use vdb_base::{NoMemory, Row, Rows, Seq};
+use vdb_base::{NoMemory, Row, Rows, Seq, Value};
 
 pub fn lend<'a>(alloc: Global, rows: &'a Rows) -> Result<Vec<&'a Row>, NoMemory>
     ensures { IfOk result (λ made. lent made.items ≡ rows.now) }
@@ -19,12 +19,12 @@ pub fn lend<'a>(alloc: Global, rows: &'a Rows) -> Result<Vec<&'a Row>, NoMemory>
 }
 
 /// The cells of a row in these columns.
-pub fn cut(alloc: Global, row: &Row, columns: &[u32]) -> Result<Row, NoMemory>
+pub fn cut(alloc: Global, row: &[Value], columns: &[u32]) -> Result<Row, NoMemory>
     ensures { IfOk result (λ made. made ≡ cut columns.now row.now) }
 {
     let mut made = Vec::with_capacity(alloc, columns.len())?;
     for column in columns {
-        made.push(cell(row.as_slice(), *column as usize).own(alloc)?)?;
+        made.push(cell(row, *column as usize).own(alloc)?)?;
     }
     Ok(Seq::from_vec(made))
 }

@@ -16,6 +16,7 @@ mod number;
 mod ordering;
 mod patterns;
 mod ranking;
+mod row_key;
 mod rows;
 mod sum;
 mod value;

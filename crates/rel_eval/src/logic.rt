@@ -28,12 +28,6 @@ pub fn is_false(v: &Value) -> bool
     matches!(v, Value::Bool(false))
 }
 
-pub fn has_null(vs: &[Value]) -> bool
-    ensures { result ≡ list_any spec.is_null vs.now }
-{
-    vs.iter().any(is_null)
-}
-
 pub fn not_of(v: &Value) -> Value
     ensures { result ≡ spec.not_of v.now }
 {
