@@ -1,79 +1,22 @@
 //! Worked statements: the columns with their types, or the refusal.
 
+use crate::worked::{deployed, tower};
 use resolver::{ResolveFault, resolve, resolve_view};
 use sql_reader::read::read_statement;
 use sql_reader::tree::Statement;
 use std::alloc::Global;
 use std::test::Fail;
-use vdb_base::{NoMemory, Seq, Text, Ty, Value, print_value};
-use vdb_model::{Catalog, ColumnDef, Ranked, Refusal, Rel, TableDef, Typed, VarDef, ViewDef};
+use vdb_base::{NoMemory, Text, Ty, Value, print_value};
+use vdb_model::{Catalog, Ranked, Refusal, Typed};
 
-fn column(alloc: Global, name: &str, ty: Ty) -> Result<ColumnDef, NoMemory> {
-    Ok(ColumnDef {
-        name: Text::from_str(alloc, name)?,
-        source: Text::from_str(alloc, name)?,
-        ty,
-        not_null: false,
-    })
-}
-
-fn table(
-    alloc: Global,
-    number: u32,
-    schema: &str,
-    name: &str,
-    columns: &[(&str, Ty)],
-) -> Result<TableDef, NoMemory> {
-    let mut defs = Seq::new(alloc);
-    for (name, ty) in columns {
-        defs.push(column(alloc, name, *ty)?)?;
-    }
-    Ok(TableDef {
-        number,
-        server: number,
-        schema: Text::from_str(alloc, schema)?,
-        name: Text::from_str(alloc, name)?,
-        source: Text::from_str(alloc, name)?,
-        columns: defs,
-        key: None,
-        patterns: Seq::new(alloc),
-        updatable: true,
-    })
-}
-
-/// A view as large as a view may be.
-fn widest(alloc: Global) -> Result<ViewDef, NoMemory> {
-    let mut columns = Seq::new(alloc);
-    columns.push(VarDef {
-        name: Text::from_str(alloc, "id")?,
-        ty: Ty::Integer,
-    })?;
-    Ok(ViewDef {
-        name: Text::from_str(alloc, "wide")?,
-        schema: Text::from_str(alloc, "v")?,
-        columns,
-        rel: Rel::Table(0),
-        nodes: 4096,
-        depth: 24,
-        updatable: false,
-    })
-}
-
-/// Customers, orders, and a view.
-fn shop(alloc: Global) -> Result<Catalog, NoMemory> {
-    let mut tables = Seq::new(alloc);
-    let cust = [("id", Ty::Integer), ("name", Ty::Str)];
-    tables.push(table(alloc, 0, "c", "cust", &cust)?)?;
-    let orders = [
-        ("id", Ty::Integer),
-        ("cust", Ty::Integer),
-        ("qty", Ty::Integer),
-    ];
-    tables.push(table(alloc, 1, "o", "orders", &orders)?)?;
-    let mut views = Seq::new(alloc);
-    views.push(widest(alloc)?)?;
-    let defined = Catalog::of_tables(alloc, Seq::new(alloc), Seq::new(alloc), tables);
-    Ok(defined.with_views(views))
+/// Customers and orders, and a view as large as a view may be.
+fn shop(alloc: Global) -> Result<Catalog, Fail> {
+    let mut ddl = tower(alloc, 10, true)?;
+    ddl.extend_from_slice(
+        b"CREATE VIEW more AS SELECT id FROM v.d10;CREATE VIEW wide AS SELECT id FROM v.more;\
+        CREATE SCHEMA o SERVER s;SET SCHEMA o;CREATE FOREIGN TABLE orders (id integer, cust integer, qty integer);",
+    )?;
+    deployed(alloc, ddl.as_slice())
 }
 
 fn type_word(ty: Ty) -> &'static str {

@@ -1,4 +1,20 @@
+pub mod ApartNames
 pub mod ChainByKinds
+pub mod DeployGives
 pub mod Digits
+pub mod KeyFits
+pub mod LongerLists
+pub mod MoreTables
+pub mod SameTexts
+pub mod SomeTypes
+pub mod SoundSoFar
+pub mod SoundTables
+pub mod SoundViews
+pub mod TakenNames
+pub mod TypedWalk
 pub mod Unless
+pub mod WellParts
+pub mod WellServers
+pub mod WellTables
+pub mod WellViews
 mod Worked

@@ -1,6 +1,5 @@
 -- What is made unless a test fails, by what the tests give.
-use Rattle.std.proofs.Common.{◌≡◌, List, Some, None, Ok, Err, ap}
-use Rattle.vdb_model.specs.declared.reply.DeployFault.{DeployFault}
+use Rattle.std.proofs.Common.{◌≡◌, List, None, Ok, Err, ap}
 use Rattle.metadata.specs.declared.fault.DeployRefusal.{DeployRefusal}
 use Rattle.metadata.specs.Answers.{Passes, Becomes}
 use Rattle.metadata.specs.Tests.{Test, first, unless_fault, unless}

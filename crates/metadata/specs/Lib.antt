@@ -1,8 +1,11 @@
 pub mod Tests
+pub mod Texts
+pub mod Taken
 pub mod Answers
 pub mod Options
 pub mod Types
 pub mod SoFar
+pub mod Sound
 pub mod Databases
 pub mod Servers
 pub mod Schemas

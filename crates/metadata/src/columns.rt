@@ -27,23 +27,6 @@ pub(crate) fn column_count(parts: &[TablePart]) -> usize
     count
 }
 
-/// Whether a column has the name.
-pub(crate) fn has_column(name: &Text, parts: &[TablePart]) -> bool
-    ensures { result ≡ spec.has_column name.now parts.now }
-{
-    for part in parts {
-        match part {
-            TablePart::Column { name: own, .. } => {
-                if own.text == *name {
-                    return true;
-                }
-            }
-            TablePart::PrimaryKey { .. } => {}
-        }
-    }
-    false
-}
-
 /// Whether the name is one of these.
 fn is_named(name: &Text, names: &[Name]) -> bool
     ensures { result ≡ list_any (spec.names name.now) names.now }

@@ -1,10 +1,11 @@
 //! What a DDL defines.
 
-ghost use Rattle.std.specs.Prelude.{◌≡◌, IfOk};
+ghost use Rattle.std.specs.Prelude.{◌≡◌, IfOk, OnOk};
 ghost use Rattle.std.specs.List.{list_any};
 ghost use Rattle.metadata.specs.Answers.{Passes, Becomes};
 ghost use Rattle.metadata.specs.Deployed as spec;
 ghost use Rattle.metadata.specs.Deployed.{IsDeployed};
+ghost use Rattle.metadata.specs.Sound.{IsSound};
 
 use crate::connection::{ConnInfo, ConnInfos};
 use crate::databases::{create_database, use_database};
@@ -28,7 +29,9 @@ fn item<W: ViewWalk>(
     s: &mut SoFar,
     item: &Item,
 ) -> Result<(), DeployRefusal>
-    ensures { Becomes (spec.item (W.walk walk.now) conns.now s.old item.now) result s.new }
+    requires { IsSound s.old }
+    ensures becomes { Becomes (spec.item (W.walk walk.now) conns.now s.old item.now) result s.new }
+    ensures sound { OnOk result (IsSound s.new) }
 {
     match item {
         Item::CreateDatabase { name, .. } => create_database(alloc, s, name),
@@ -63,6 +66,7 @@ fn items<W: ViewWalk>(
     s: &mut SoFar,
     items: &[Item],
 ) -> Result<(), DeployRefusal>
+    requires { IsSound s.old }
     ensures { Becomes (spec.items (W.walk walk.now) conns.now s.old items.now) result s.new }
 {
     for each in items {

@@ -10,9 +10,10 @@
 //! their limit is the fault, and a PRIMARY KEY without columns gives no key.
 //!
 //! The query of a view is typed by the resolver. `deploy_by` is the same over any `ViewWalk`, whose refusal's number the fault
-//! carries. What is deployed is a well-formed catalog, as `catalog_laws` proves. Procedures, triggers and access patterns have no
-//! items yet. Names are looked up by going through lists: an item takes time in the number of relations, and a relation's columns
-//! are compared with each other, which takes long only in an item that is refused, since others have 256 columns at most.
+//! carries, and whose queries are typed. A catalog is well formed, which is part of its type, and so it stays with each item:
+//! `proofs/Well..` say what each kind of definition has to bring for that, and `proofs/Sound..` that the tests of its item give it.
+//! Procedures, triggers and access patterns have no items yet. Relations are looked up by going through lists: an item takes time
+//! in the number of relations. The names of a relation's columns stand in sets, so that many columns take the time of a sort.
 #![tactic(auto)]
 
 mod chains;
@@ -28,6 +29,8 @@ mod servers;
 mod sizes;
 mod so_far;
 mod tables;
+mod taken;
+mod texts;
 mod types;
 mod view_columns;
 mod views;

@@ -1,41 +1,65 @@
 //! The tests of what stands between the commas of a foreign table.
 
-ghost use Rattle.std.specs.Prelude.{◌≡◌, [], false, IfOk, OnOk};
-ghost use Rattle.std.specs.List.{list_any};
+ghost use Rattle.std.specs.Prelude.{◌≡◌, ◌||◌, [], ◌∷◌, ◌++◌, ℕ, false, List, IfOk, OnOk};
 ghost use Rattle.metadata.specs.Answers.{Passes};
 ghost use Rattle.metadata.specs.Columns as spec;
+ghost use Rattle.metadata.specs.Taken.{IsOf, HasColumns, is_column};
+ghost use Rattle.metadata.specs.Texts.{is_among};
+ghost use Rattle.vdb_ddl.specs.declared.tree.TablePart.{TablePart};
+ghost use Rattle.vdb_model.specs.declared.table.ColumnDef.{ColumnDef};
 
-use crate::columns::has_column;
 use crate::fault::DeployRefusal;
 use crate::options::{Owner, source_of, taken_options};
 use crate::so_far::good_name;
+use crate::taken::Taken;
+use crate::texts::Texts;
 use crate::types::{known_type, whole_type};
 use sql_reader::tree::Name;
 use std::alloc::Global;
-use vdb_base::{NoMemory, Seq, Text, Ty};
+use vdb_base::{NoMemory, Text};
 use vdb_ddl::tree::{Setting, TablePart};
-use vdb_model::{ColumnDef, DeployFault, printed};
+use vdb_model::{DeployFault, printed};
 
-/// Refused at the first of a key's columns that the table doesn't have.
-fn known_columns(alloc: Global, parts: &[TablePart], names: &[Name]) -> Result<(), DeployRefusal>
-    ensures { Passes (spec.unknown_column parts.now names.now) result }
+/// Adds the name of the part to those before, where it is a column.
+fn add_name(alloc: Global, names: &mut Texts, part: &TablePart) -> Result<(), NoMemory>
+    ensures { OnOk result ((q : List ℕ) → is_among names.new.texts.keys q ≡ (is_column q part.now || is_among names.old.texts.keys q)) }
 {
-    for name in names {
-        if !has_column(&name.text, parts) {
-            let name = printed(alloc, &name.text)?;
+    match part {
+        TablePart::Column { name, .. } => names.add(name.text.copy(alloc)?),
+        TablePart::PrimaryKey { .. } => Ok(()),
+    }
+}
+
+fn column_names(alloc: Global, parts: &[TablePart]) -> Result<Texts, NoMemory>
+    ensures { IfOk result (λ names. HasColumns names.texts.keys parts.now) }
+{
+    let mut names = Texts::new(alloc);
+    for part in parts {
+        add_name(alloc, &mut names, part)?;
+    }
+    Ok(names)
+}
+
+/// Refused at the first of a key's columns that isn't one of these.
+fn known_columns(alloc: Global, names: &Texts, columns: &[Name]) -> Result<(), DeployRefusal>
+    ensures { (all : List TablePart) → HasColumns names.now.texts.keys all → Passes (spec.unknown_column all columns.now) result }
+{
+    for column in columns {
+        if !names.has(&column.text) {
+            let name = printed(alloc, &column.text)?;
             return Err(DeployRefusal::Refused(DeployFault::Unknown { name }));
         }
     }
     Ok(())
 }
 
-/// Refused where the type or the key's columns of the part aren't there.
-fn known_part(alloc: Global, all: &[TablePart], part: &TablePart) -> Result<(), DeployRefusal>
-    ensures { Passes (spec.unknown_part all.now part.now) result }
+/// Refused where the type of the part isn't there, or one of the key's columns isn't one of these.
+fn known_part(alloc: Global, names: &Texts, part: &TablePart) -> Result<(), DeployRefusal>
+    ensures { (all : List TablePart) → HasColumns names.now.texts.keys all → Passes (spec.unknown_part all part.now) result }
 {
     match part {
         TablePart::Column { ty, .. } => known_type(alloc, ty),
-        TablePart::PrimaryKey { columns } => known_columns(alloc, all, columns.as_slice()),
+        TablePart::PrimaryKey { columns } => known_columns(alloc, names, columns.as_slice()),
     }
 }
 
@@ -43,8 +67,9 @@ fn known_part(alloc: Global, all: &[TablePart], part: &TablePart) -> Result<(), 
 pub(crate) fn known_parts(alloc: Global, parts: &[TablePart]) -> Result<(), DeployRefusal>
     ensures { Passes (spec.unknown_in parts.now parts.now) result }
 {
+    let names = column_names(alloc, parts)?;
     for part in parts {
-        known_part(alloc, parts, part)?;
+        known_part(alloc, &names, part)?;
     }
     Ok(())
 }
@@ -113,41 +138,18 @@ pub(crate) fn is_one_source(a: &Text, b: &Text) -> bool
     a.as_bytes().eq_ignore_ascii_case(b.as_bytes())
 }
 
-fn takes_name(apart: bool, name: &Text, source: &Text, columns: &[ColumnDef]) -> bool
-    ensures { result ≡ list_any (spec.takes_name apart name.now source.now) columns.now }
-{
-    for column in columns {
-        if column.name == *name || (apart && is_one_source(source, &column.source)) {
-            return true;
-        }
-    }
-    false
-}
-
-/// A column with its names alone.
-fn named_column(alloc: Global, name: &Name, options: &[Setting]) -> Result<ColumnDef, NoMemory>
-    ensures { IfOk result (λ made. made ≡ spec.named_column name.now options.now) }
-{
-    Ok(ColumnDef {
-        name: name.text.copy(alloc)?,
-        source: source_of(alloc, &name.text, options)?,
-        ty: Ty::Boolean,
-        not_null: false,
-    })
-}
-
-/// Refused where one of the columns before has the name or the source name of the column, by the name.
+/// Refused where one of the columns so far has the name or the source name of the column, by the name.
 fn free_column(
     alloc: Global,
     apart: bool,
-    before: &[ColumnDef],
+    taken: &Taken,
     name: &Name,
     options: &[Setting],
 ) -> Result<(), DeployRefusal>
-    ensures { Passes (spec.column_taken apart before.now (spec.named_column name.now options.now)) result }
+    ensures { (before : List ColumnDef) → IsOf taken.now before → Passes (spec.column_taken apart before (spec.named_column name.now options.now)) result }
 {
     let source = source_of(alloc, &name.text, options)?;
-    if takes_name(apart, &name.text, &source, before) {
+    if taken.takes(alloc, apart, &name.text, &source)? {
         let name = printed(alloc, &name.text)?;
         return Err(DeployRefusal::Refused(DeployFault::Duplicate { name }));
     }
@@ -170,27 +172,39 @@ fn free_part(
     alloc: Global,
     apart: bool,
     table: &Text,
-    before: &[ColumnDef],
+    taken: &Taken,
     keyed: bool,
     part: &TablePart,
 ) -> Result<(), DeployRefusal>
-    ensures { Passes (spec.taken_part apart table.now before.now keyed part.now) result }
+    ensures { (before : List ColumnDef) → IsOf taken.now before → Passes (spec.taken_part apart table.now before keyed part.now) result }
 {
     match part {
         TablePart::Column { name, options, .. } => {
-            free_column(alloc, apart, before, name, options.as_slice())
+            free_column(alloc, apart, taken, name, options.as_slice())
         }
         TablePart::PrimaryKey { .. } => first_key(alloc, table, keyed),
     }
 }
 
-/// Adds the part to the columns before, where it is one.
-fn add_part(alloc: Global, before: &mut Seq<ColumnDef>, part: &TablePart) -> Result<(), NoMemory>
-    ensures { OnOk result (before.new ≡ spec.before_with before.old part.now) }
+fn add_column(
+    alloc: Global,
+    taken: &mut Taken,
+    name: &Name,
+    options: &[Setting],
+) -> Result<(), NoMemory>
+    ensures { (before : List ColumnDef) → IsOf taken.old before → OnOk result (IsOf taken.new (before ++ spec.named_column name.now options.now ∷ [])) }
+{
+    let source = source_of(alloc, &name.text, options)?;
+    taken.add(alloc, &name.text, &source)
+}
+
+/// Adds the part to the columns so far, where it is one.
+fn add_part(alloc: Global, taken: &mut Taken, part: &TablePart) -> Result<(), NoMemory>
+    ensures { (before : List ColumnDef) → IsOf taken.old before → OnOk result (IsOf taken.new (spec.before_with before part.now)) }
 {
     match part {
         TablePart::Column { name, options, .. } => {
-            before.push(named_column(alloc, name, options.as_slice())?)
+            add_column(alloc, taken, name, options.as_slice())
         }
         TablePart::PrimaryKey { .. } => Ok(()),
     }
@@ -214,11 +228,11 @@ pub(crate) fn free_parts(
 ) -> Result<(), DeployRefusal>
     ensures { Passes (spec.taken_in apart table.now [] false parts.now) result }
 {
-    let mut before: Seq<ColumnDef> = Seq::new(alloc);
+    let mut taken = Taken::new(alloc);
     let mut keyed = false;
     for part in parts {
-        free_part(alloc, apart, table, before.as_slice(), keyed, part)?;
-        add_part(alloc, &mut before, part)?;
+        free_part(alloc, apart, table, &taken, keyed, part)?;
+        add_part(alloc, &mut taken, part)?;
         keyed = keyed_with(keyed, part);
     }
     Ok(())

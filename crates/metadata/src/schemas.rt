@@ -4,6 +4,8 @@ ghost use Rattle.std.specs.Prelude.{◌≡◌, IfOk, OnOk};
 ghost use Rattle.metadata.specs.Answers.{Passes, Becomes};
 ghost use Rattle.metadata.specs.Schemas as spec;
 ghost use Rattle.metadata.specs.SoFar.{schema_named, server_named};
+ghost use Rattle.metadata.specs.Sound.{IsSound};
+ghost use Rattle.vdb_model.specs.WellFormed.{IsWellFormed};
 
 use crate::fault::DeployRefusal;
 use crate::so_far::{SoFar, added, few, find_schema, find_server, good_name, number};
@@ -59,6 +61,7 @@ fn add_schema(
     name: &Name,
     server: Option<u32>,
 ) -> Result<(), NoMemory>
+    requires { IsWellFormed (spec.with_schema s.old name.now server).catalog }
     ensures { OnOk result (s.new ≡ spec.with_schema s.old name.now server) }
 {
     let name = name.text.copy(alloc)?;
@@ -81,6 +84,7 @@ pub(crate) fn create_schema(
     name: &Name,
     server: &Name,
 ) -> Result<(), DeployRefusal>
+    requires { IsSound s.old }
     ensures { Becomes (spec.create_schema s.old name.now server.now) result s.new }
 {
     known_server(alloc, s, server)?;
@@ -96,6 +100,7 @@ pub(crate) fn create_virtual_schema(
     s: &mut SoFar,
     name: &Name,
 ) -> Result<(), DeployRefusal>
+    requires { IsSound s.old }
     ensures { Becomes (spec.create_virtual_schema s.old name.now) result s.new }
 {
     free_schema(alloc, s, name)?;

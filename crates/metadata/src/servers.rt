@@ -5,6 +5,8 @@ ghost use Rattle.std.specs.List.{list_any};
 ghost use Rattle.std.specs.Option.{option_copied};
 ghost use Rattle.metadata.specs.Answers.{Passes, Becomes};
 ghost use Rattle.metadata.specs.Servers as spec;
+ghost use Rattle.metadata.specs.Sound.{IsSound};
+ghost use Rattle.vdb_model.specs.WellFormed.{IsWellFormed};
 
 use crate::connection::{ConnInfo, ConnInfos};
 use crate::fault::DeployRefusal;
@@ -99,6 +101,7 @@ fn add_server(
     options: &[Setting],
     conn: &ConnInfo,
 ) -> Result<(), NoMemory>
+    requires { IsWellFormed (spec.with_server s.old (spec.server_of name.now options.now conn.now)).catalog }
     ensures { OnOk result (s.new ≡ spec.with_server s.old (spec.server_of name.now options.now conn.now)) }
 {
     let server = ServerDef {
@@ -118,6 +121,7 @@ pub(crate) fn create_server(
     wrapper: &Name,
     options: &Settings,
 ) -> Result<(), DeployRefusal>
+    requires { IsSound s.old }
     ensures { Becomes (spec.create_server conns.now s.old name.now wrapper.now options.now) result s.new }
 {
     let options = options.as_slice();
@@ -127,9 +131,10 @@ pub(crate) fn create_server(
         return Err(DeployRefusal::Refused(DeployFault::NoConnection { server }));
     };
     of_kind(alloc, conn, name, wrapper)?;
-    free_server(alloc, s.catalog.servers(), name)?;
+    let servers = s.catalog.servers();
+    free_server(alloc, servers, name)?;
     taken_options(Owner::Server, options)?;
-    few_servers(alloc, s.catalog.servers(), name)?;
+    few_servers(alloc, servers, name)?;
     good_name(alloc, &name.text)?;
     Ok(add_server(alloc, s, name, options, conn)?)
 }

@@ -5,6 +5,7 @@ ghost use Rattle.std.specs.List.{list_any};
 ghost use Rattle.std.specs.Option.{is_none, is_some, option_copied};
 ghost use Rattle.metadata.specs.Answers.{Passes};
 ghost use Rattle.metadata.specs.SoFar as spec;
+ghost use Rattle.metadata.specs.Sound.{IsSound};
 ghost use Rattle.vdb_model.specs.WellFormed.{is_name};
 
 use crate::fault::DeployRefusal;
@@ -26,7 +27,8 @@ pub struct SoFar {
 }
 
 pub(crate) fn nothing(alloc: Global) -> SoFar
-    ensures { result ≡ spec.nothing }
+    ensures is { result ≡ spec.nothing }
+    ensures sound { IsSound result }
 {
     SoFar {
         catalog: Catalog::new(alloc),

@@ -3,6 +3,7 @@
 ghost use Rattle.std.specs.Prelude.{◌≡◌, IfOk};
 ghost use Rattle.std.specs.List.{list_any};
 ghost use Rattle.metadata.specs.Answers.{Passes, Becomes};
+ghost use Rattle.metadata.specs.Sound.{IsSound};
 ghost use Rattle.metadata.specs.Tables as spec;
 ghost use Rattle.metadata.specs.Tests.{first};
 
@@ -152,6 +153,7 @@ pub(crate) fn create_table(
     parts: &TableParts,
     options: &Settings,
 ) -> Result<(), DeployRefusal>
+    requires { IsSound s.old }
     ensures { Becomes (spec.create_table s.old name.now parts.now options.now) result s.new }
 {
     let parts = parts.as_slice();

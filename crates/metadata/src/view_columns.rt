@@ -1,7 +1,6 @@
 //! The columns of a view.
 
 ghost use Rattle.std.specs.Prelude.{◌≡◌, IfOk};
-ghost use Rattle.std.specs.List.{list_any};
 ghost use Rattle.metadata.specs.Answers.{Passes};
 ghost use Rattle.metadata.specs.Types.{unknown_type, fractional_type};
 ghost use Rattle.metadata.specs.Views as spec;
@@ -9,6 +8,7 @@ ghost use Rattle.vdb_model.specs.Typed as typed;
 
 use crate::fault::DeployRefusal;
 use crate::so_far::good_name;
+use crate::texts::Texts;
 use crate::types::{known_type, type_of, whole_type};
 use sql_reader::tree::Name;
 use std::alloc::Global;
@@ -132,29 +132,18 @@ pub(crate) fn view_columns(
     }
 }
 
-fn is_named(name: &Text, columns: &[VarDef]) -> bool
-    ensures { result ≡ list_any (spec.is_named name.now) columns.now }
-{
-    for other in columns {
-        if *name == other.name {
-            return true;
-        }
-    }
-    false
-}
-
 /// Whether no two columns have one name.
-pub(crate) fn are_apart(columns: &[VarDef]) -> bool
-    ensures { result ≡ spec.are_apart columns.now }
+pub(crate) fn are_apart(alloc: Global, columns: &[VarDef]) -> Result<bool, NoMemory>
+    ensures { IfOk result (λ apart. apart ≡ spec.are_apart columns.now) }
 {
-    let mut left = columns;
-    while let [column, others @ ..] = left {
-        if is_named(&column.name, others) {
-            return false;
+    let mut names = Texts::new(alloc);
+    for column in columns {
+        if names.has(&column.name) {
+            return Ok(false);
         }
-        left = others;
+        names.add(column.name.copy(alloc)?)?;
     }
-    true
+    Ok(true)
 }
 
 /// Refused at the first name of a column that hasn't 1 to 64 bytes.

@@ -1,11 +1,14 @@
 //! CREATE VIEW.
 
-ghost use Rattle.std.specs.Prelude.{◌≡◌, ◌+◌, IfOk, OnOk};
+ghost use Rattle.std.specs.Prelude.{◌≡◌, ◌+◌, None, IsTrue, IfOk, OnOk};
 ghost use Rattle.metadata.specs.Answers.{Passes, Makes, Becomes};
-ghost use Rattle.metadata.specs.SoFar.{relation_taken, relation_text, too_many};
+ghost use Rattle.metadata.specs.SoFar.{relation_taken, relation_text, schema_set, too_many};
+ghost use Rattle.metadata.specs.Sound.{IsSound};
 ghost use Rattle.metadata.specs.Tests.{first, unless};
 ghost use Rattle.metadata.specs.Views as spec;
+ghost use Rattle.metadata.specs.Walked.{IsTypedQuery};
 ghost use Rattle.vdb_model.specs.Sizes.{nodes_of, depth_of};
+ghost use Rattle.vdb_model.specs.WellFormed.{IsWellFormed, stands_in_schema};
 
 use crate::chains::chain_below;
 use crate::fault::DeployRefusal;
@@ -70,7 +73,8 @@ fn walked<W: ViewWalk>(
     name: &Name,
     query: &Query,
 ) -> Result<Ranked, DeployRefusal>
-    ensures { Makes (spec.walked s.now name.now (W.walk walk.now s.now.catalog query.now)) result }
+    ensures walks { Makes (spec.walked s.now name.now (W.walk walk.now s.now.catalog query.now)) result }
+    ensures typed { IfOk result (IsTypedQuery s.now.catalog) }
 {
     match walk.walk_view(alloc, &s.catalog, query) {
         Ok(query) => Ok(query),
@@ -94,7 +98,8 @@ fn good_columns(
     requires { made.now ≡ spec.view_columns columns.now query.now }
     ensures { Passes (spec.bad_columns s.now name.now columns.now query.now) result }
 {
-    if !(fits_list(columns, query.tys.as_slice()) && are_apart(made.as_slice())) {
+    let apart = are_apart(alloc, made.as_slice())?;
+    if !(fits_list(columns, query.tys.as_slice()) && apart) {
         let name = s.relation_text(alloc, name)?;
         return Err(DeployRefusal::Refused(DeployFault::Columns { name }));
     }
@@ -165,6 +170,7 @@ fn view_of(
 
 /// Adds a view, and its chain, which is one more than the longest below it.
 fn add_view(s: &mut SoFar, view: ViewDef, below: u32) -> Result<(), NoMemory>
+    requires { IsWellFormed (spec.with_view s.old view (below + 1)).catalog }
     ensures { OnOk result (s.new ≡ spec.with_view s.old view (below + 1)) }
 {
     let chain = number(below as usize + 1)?;
@@ -181,6 +187,9 @@ fn view_over(
     options: &[Setting],
     query: Ranked,
 ) -> Result<(), DeployRefusal>
+    requires sound { IsSound s.old }
+    requires stands { IsTrue (stands_in_schema s.old.catalog.schemas None (schema_set s.old).name) }
+    requires typed { IsTypedQuery s.old.catalog query }
     ensures { Becomes (spec.view_over s.old name.now columns.now options.now query) result s.new }
 {
     let below = chain_below(s.chains.as_slice(), &query.rel);
@@ -197,7 +206,9 @@ pub(crate) fn create_view<W: ViewWalk>(
     options: &Settings,
     query: &Query,
 ) -> Result<(), DeployRefusal>
-    ensures { Becomes (spec.create_view (W.walk walk.now) s.old name.now columns.now options.now query.now) result s.new }
+    requires { IsSound s.old }
+    ensures becomes { Becomes (spec.create_view (W.walk walk.now) s.old name.now columns.now options.now query.now) result s.new }
+    ensures sound { OnOk result (IsSound s.new) }
 {
     let options = options.as_slice();
     sound_view(alloc, s, name, columns, options)?;

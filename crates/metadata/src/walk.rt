@@ -1,7 +1,7 @@
 //! The walk that types a view's query, which another crate gives.
 
-ghost use Rattle.std.specs.Prelude.{Result};
-ghost use Rattle.metadata.specs.Walked.{Walks};
+ghost use Rattle.std.specs.Prelude.{Result, IfOk};
+ghost use Rattle.metadata.specs.Walked.{Walks, IsTypedQuery};
 ghost use Rattle.sql_reader.specs.declared.tree.query.Query as query;
 ghost use Rattle.vdb_model.specs.declared.rel.Ranked as ranked;
 ghost use Rattle.vdb_model.specs.declared.reply.Refusal as refusal;
@@ -25,5 +25,6 @@ pub trait ViewWalk {
 
     /// The typed query over what the catalog defines.
     fn walk_view(&self, alloc: Global, cat: &Catalog, query: &Query) -> Result<Ranked, WalkFault>
-        ensures { Walks (walk self.now cat.now query.now) result };
+        ensures walks { Walks (walk self.now cat.now query.now) result }
+        ensures typed { IfOk result (IsTypedQuery cat.now) };
 }

@@ -12,6 +12,7 @@ use sql_reader::tree::Query;
 use std::alloc::Global;
 use vdb_ddl::tree::Items;
 use vdb_model::{Catalog, Ranked};
+use walk_laws::{queries_are_closed, queries_are_typed};
 
 /// The resolver's walk.
 struct Resolver;
@@ -22,6 +23,9 @@ impl ViewWalk for Resolver {
     ghost walk = { λ self defined query. query_walk defined query };
 
     fn walk_view(&self, alloc: Global, cat: &Catalog, query: &Query) -> Result<Ranked, WalkFault> {
+        queries_are_closed();
+        queries_are_typed();
+        cat.is_well_formed();
         match resolve_view(alloc, cat, query) {
             Ok(query) => Ok(query),
             Err(ResolveFault::Refused(refusal)) => Err(WalkFault::Refused(refusal)),

@@ -1,5 +1,5 @@
 -- What values feed a hasher. Values that are the same feed the same.
-use Rattle.std.specs.Prelude.{List, [], ◌∷◌, ◌++◌}
+use Rattle.std.specs.Prelude.{[], ◌∷◌, ◌++◌}
 use Rattle.std.specs.Hash as fed
 use Rattle.std.specs.Hash.{HashWrites}
 use Rattle.vdb_base.specs.declared.value.Value.{Value}

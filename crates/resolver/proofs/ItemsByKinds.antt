@@ -10,7 +10,7 @@ use Rattle.sql_reader.specs.declared.tree.expr.Expr.TheFolds.{fold-Arm, fold-Lin
 use Rattle.sql_reader.specs.declared.tree.expr.Link.{Link, out-Link}
 use Rattle.sql_reader.specs.declared.tree.expr.Literal.{Literal}
 use Rattle.sql_reader.specs.declared.tree.name.ColumnName.{ColumnName}
-use Rattle.resolver.specs.Scope.{last_name}
+use Rattle.expr_resolver.specs.Scope.{last_name}
 use Rattle.resolver.specs.Items.{any_true, aggregate_step, link_aggregate, arm_aggregate, has_aggregate, any_has, any_link_has, any_arm_has, last_has, no_name, name_step, column_name}
 
 abbrev link_flag : Link → Bool

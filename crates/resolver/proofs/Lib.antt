@@ -1,4 +1,3 @@
-pub mod ByKinds
 pub mod ItemsByKinds
 pub mod OneMore
 pub mod Rules

@@ -1,10 +1,7 @@
 -- The lemmas that the proofs of the walk share.
-use Rattle.resolver.proofs.ByKinds.{walk_of_kinds}
 use Rattle.resolver.proofs.ItemsByKinds.{aggregate_of_kinds, name_of_kinds}
 use Rattle.resolver.proofs.OneMore.{chosen_exprs_more, chosen_columns_more}
 use Rattle.resolver.proofs.SetsByKinds.{sets_of_kinds}
-
-pub ruleset walk_rules = (walk_of_kinds)
 
 pub ruleset item_rules = (aggregate_of_kinds, name_of_kinds)
 

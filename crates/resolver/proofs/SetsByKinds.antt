@@ -15,7 +15,7 @@ use Rattle.sql_reader.specs.declared.tree.query.TableRef.TheVariants as table
 use Rattle.resolver.specs.declared.selected.Selected.{Selected}
 use Rattle.resolver.specs.From.{TablePart, table_source, joined_source}
 use Rattle.resolver.specs.Selects.{set_step, table_step, select, select_of, set_walk, table_walk, tables_walk, select_walk, derived, united}
-use Rattle.resolver.specs.Walking.{next}
+use Rattle.expr_resolver.specs.Walking.{next}
 
 module _ (defined : Defined) where
   abbrev table_part : TableRef → TablePart

@@ -43,7 +43,7 @@ use Rattle.sql_reader.specs.declared.tree.query.TableRef.{TableRef}
 use Rattle.sql_reader.specs.declared.tree.query.TableRef.TheVariants as table
 use Rattle.sql_reader.specs.declared.tree.query.KeyTarget.TheVariants as target
 use Rattle.resolver.specs.Queries.{query_walk}
-use Rattle.resolver.proofs.ByKinds.{walk_of_kinds}
+use Rattle.expr_resolver.proofs.ByKinds.{walk_of_kinds}
 use Rattle.resolver.proofs.ItemsByKinds.{aggregate_of_kinds, name_of_kinds}
 use Rattle.resolver.proofs.SetsByKinds.{sets_of_kinds}
 

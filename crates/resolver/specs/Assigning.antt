@@ -7,13 +7,13 @@ use Rattle.vdb_model.specs.declared.reply.Refusal.TheVariants.{Mismatch}
 use Rattle.vdb_model.specs.declared.typed.VarDef.{VarDef}
 use Rattle.vdb_model.specs.NameText.{name_text}
 use Rattle.sql_reader.specs.declared.tree.name.Name.{Name}
-use Rattle.resolver.specs.declared.known.Known.{Known}
+use Rattle.expr_resolver.specs.declared.known.Known.{Known}
 use Rattle.resolver.specs.declared.selected.Column.{Column}
 use Rattle.resolver.specs.declared.targets.Given.{Given}
 use Rattle.resolver.specs.declared.targets.Targets.{Targets}
-use Rattle.resolver.specs.Scope.{only, named}
-use Rattle.resolver.specs.Types.{is_assignable}
-use Rattle.resolver.specs.Walking.{next}
+use Rattle.expr_resolver.specs.Scope.{only, named}
+use Rattle.expr_resolver.specs.Types.{is_assignable}
+use Rattle.expr_resolver.specs.Walking.{next}
 
 -- a target column twice is refused at the second
 abbrev pub once : ℕ → List ℕ → ℕ × Ty → Result (ℕ × Ty) Refusal

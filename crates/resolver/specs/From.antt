@@ -19,18 +19,18 @@ use Rattle.sql_reader.specs.declared.tree.name.Name.{Name}
 use Rattle.sql_reader.specs.declared.tree.name.RelationName.{RelationName}
 use Rattle.sql_reader.specs.declared.tree.query.JoinKind as tree
 use Rattle.sql_reader.specs.declared.tree.query.JoinKind.TheVariants as kind
-use Rattle.resolver.specs.declared.known.Known.{Known}
+use Rattle.expr_resolver.specs.declared.known.Known.{Known}
 use Rattle.resolver.specs.declared.relation.Relation.{Relation}
-use Rattle.resolver.specs.declared.scope.Entry.{Entry}
-use Rattle.resolver.specs.declared.scope.Names.{Names}
-use Rattle.resolver.specs.declared.scope.Over.TheVariants.{Rows}
+use Rattle.expr_resolver.specs.declared.scope.Entry.{Entry}
+use Rattle.expr_resolver.specs.declared.scope.Names.{Names}
+use Rattle.expr_resolver.specs.declared.scope.Over.TheVariants.{Rows}
 use Rattle.resolver.specs.declared.selected.Column.{Column}
 use Rattle.resolver.specs.declared.selected.Source.{Source}
-use Rattle.resolver.specs.Exprs.{walk}
-use Rattle.resolver.specs.Operators.{condition}
+use Rattle.expr_resolver.specs.Exprs.{walk}
+use Rattle.expr_resolver.specs.Operators.{condition}
 use Rattle.resolver.specs.Relations.{relation_of, rel_of, written_relation}
-use Rattle.resolver.specs.Types.{settled}
-use Rattle.resolver.specs.Walking.{next, Walk, one}
+use Rattle.expr_resolver.specs.Types.{settled}
+use Rattle.expr_resolver.specs.Walking.{next, Walk, one}
 
 -- what stands outside of items and HAVING meets no aggregate
 abbrev pub alone : {A : Type 0} → Walk A → Result A Refusal

@@ -16,15 +16,15 @@ use Rattle.sql_reader.specs.declared.tree.expr.Expr.TheFolds.{fold-Expr}
 use Rattle.sql_reader.specs.declared.tree.name.Name.{Name}
 use Rattle.sql_reader.specs.declared.tree.query.SelectItem.{SelectItem}
 use Rattle.sql_reader.specs.declared.tree.query.SelectItem.TheVariants as item
-use Rattle.resolver.specs.declared.known.Known.{Known}
-use Rattle.resolver.specs.declared.scope.Entry.{Entry}
-use Rattle.resolver.specs.declared.scope.Names.{Names}
-use Rattle.resolver.specs.declared.scope.Over.{Over}
+use Rattle.expr_resolver.specs.declared.known.Known.{Known}
+use Rattle.expr_resolver.specs.declared.scope.Entry.{Entry}
+use Rattle.expr_resolver.specs.declared.scope.Names.{Names}
+use Rattle.expr_resolver.specs.declared.scope.Over.{Over}
 use Rattle.resolver.specs.declared.selected.Chosen.{Chosen}
 use Rattle.resolver.specs.declared.selected.Column.{Column}
-use Rattle.resolver.specs.Exprs.{walk}
-use Rattle.resolver.specs.Scope.{only, column_over, last_name}
-use Rattle.resolver.specs.Walking.{next, Walk, given, one, in_turn}
+use Rattle.expr_resolver.specs.Exprs.{walk}
+use Rattle.expr_resolver.specs.Scope.{only, column_over, last_name}
+use Rattle.expr_resolver.specs.Walking.{next, Walk, given, one, in_turn}
 
 -- the name of the column that an expression is, in parentheses or not
 abbrev pub no_name : {A : Type 0} → A → Option (List ℕ)

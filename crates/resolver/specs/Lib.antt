@@ -1,8 +1,3 @@
-pub mod Walking
-pub mod Types
-pub mod Scope
-pub mod Operators
-pub mod Exprs
 pub mod Relations
 pub mod From
 pub mod Items
@@ -10,4 +5,3 @@ pub mod Selects
 pub mod Queries
 pub mod Assigning
 pub mod Statements
-pub mod Answers

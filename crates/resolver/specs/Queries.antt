@@ -20,10 +20,10 @@ use Rattle.sql_reader.specs.declared.tree.query.KeyTarget.TheVariants as target
 use Rattle.sql_reader.specs.declared.tree.query.Query.{Query}
 use Rattle.resolver.specs.declared.selected.Column.{Column}
 use Rattle.resolver.specs.declared.selected.Selected.{Selected}
-use Rattle.resolver.specs.Scope.{only}
+use Rattle.expr_resolver.specs.Scope.{only}
 use Rattle.resolver.specs.Selects.{set_walk, union_of}
-use Rattle.resolver.specs.Types.{settled}
-use Rattle.resolver.specs.Walking.{next}
+use Rattle.expr_resolver.specs.Types.{settled}
+use Rattle.expr_resolver.specs.Walking.{next}
 
 abbrev pub names_of : List Column → List (List ℕ)
 names_of [] = []

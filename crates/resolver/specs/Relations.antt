@@ -17,7 +17,7 @@ use Rattle.vdb_model.specs.NameText.{name_text, dotted}
 use Rattle.sql_reader.specs.declared.tree.name.Name.{Name}
 use Rattle.sql_reader.specs.declared.tree.name.RelationName.{RelationName}
 use Rattle.resolver.specs.declared.relation.Relation.{Relation}
-use Rattle.resolver.specs.Scope.{only}
+use Rattle.expr_resolver.specs.Scope.{only}
 
 abbrev pub is_of_schema : Option Name → List ℕ → Bool
 is_of_schema None schema = true

@@ -17,22 +17,22 @@ use Rattle.sql_reader.specs.declared.tree.query.SetQuery.{SetQuery}
 use Rattle.sql_reader.specs.declared.tree.query.TableRef.{TableRef}
 use Rattle.sql_reader.specs.declared.tree.query.SetQuery.TheOpen.{SetQuery-F, Select-F, TableRef-F}
 use Rattle.sql_reader.specs.declared.tree.query.SetQuery.TheFolds.{fold-SetQuery, fold-TableRef}
-use Rattle.resolver.specs.declared.known.Known.{Known}
-use Rattle.resolver.specs.declared.scope.Entry.{Entry}
-use Rattle.resolver.specs.declared.scope.Names.{Names}
-use Rattle.resolver.specs.declared.scope.Over.{Over}
-use Rattle.resolver.specs.declared.scope.Over.TheVariants.{Rows, Groups}
+use Rattle.expr_resolver.specs.declared.known.Known.{Known}
+use Rattle.expr_resolver.specs.declared.scope.Entry.{Entry}
+use Rattle.expr_resolver.specs.declared.scope.Names.{Names}
+use Rattle.expr_resolver.specs.declared.scope.Over.{Over}
+use Rattle.expr_resolver.specs.declared.scope.Over.TheVariants.{Rows, Groups}
 use Rattle.resolver.specs.declared.selected.Chosen.{Chosen}
 use Rattle.resolver.specs.declared.selected.Column.{Column}
 use Rattle.resolver.specs.declared.selected.Selected.{Selected}
 use Rattle.resolver.specs.declared.selected.Source.{Source}
-use Rattle.resolver.specs.Exprs.{walk}
+use Rattle.expr_resolver.specs.Exprs.{walk}
 use Rattle.resolver.specs.From.{TablePart, condition_over, table_source, derived_source, joined_source, from}
 use Rattle.resolver.specs.Items.{any_aggregate, items_walk, exprs_of, columns_of, first_of}
-use Rattle.resolver.specs.Operators.{condition}
-use Rattle.resolver.specs.Scope.{column_of}
-use Rattle.resolver.specs.Types.{common}
-use Rattle.resolver.specs.Walking.{next, Walk, given, one}
+use Rattle.expr_resolver.specs.Operators.{condition}
+use Rattle.expr_resolver.specs.Scope.{column_of}
+use Rattle.expr_resolver.specs.Types.{common}
+use Rattle.expr_resolver.specs.Walking.{next, Walk, given, one}
 
 -- WHERE is a Where
 abbrev pub filtered : Option Expr → Source → Result Source Refusal

@@ -23,22 +23,22 @@ use Rattle.sql_reader.specs.declared.tree.statement.InsertSource.TheVariants as 
 use Rattle.sql_reader.specs.declared.tree.statement.Statement.{Statement}
 use Rattle.sql_reader.specs.declared.tree.statement.Statement.TheVariants as statement
 use Rattle.sql_reader.specs.declared.tree.statement.Update.{Update}
-use Rattle.resolver.specs.declared.known.Known.{Known}
+use Rattle.expr_resolver.specs.declared.known.Known.{Known}
 use Rattle.resolver.specs.declared.relation.Relation.{Relation}
-use Rattle.resolver.specs.declared.scope.Entry.{Entry}
-use Rattle.resolver.specs.declared.scope.Names.{Names}
-use Rattle.resolver.specs.declared.scope.Over.TheVariants.{Rows}
+use Rattle.expr_resolver.specs.declared.scope.Entry.{Entry}
+use Rattle.expr_resolver.specs.declared.scope.Names.{Names}
+use Rattle.expr_resolver.specs.declared.scope.Over.TheVariants.{Rows}
 use Rattle.resolver.specs.declared.selected.Selected.{Selected}
 use Rattle.resolver.specs.declared.selected.Source.{Source}
 use Rattle.resolver.specs.declared.targets.Sets.{Sets}
 use Rattle.resolver.specs.Assigning.{target_column, listed_columns, of_known, of_columns, assigned, assigned_value}
-use Rattle.resolver.specs.Exprs.{walk}
+use Rattle.expr_resolver.specs.Exprs.{walk}
 use Rattle.resolver.specs.From.{alone, table_entry}
-use Rattle.resolver.specs.Operators.{exprs_of}
+use Rattle.expr_resolver.specs.Operators.{exprs_of}
 use Rattle.resolver.specs.Queries.{query_walk}
 use Rattle.resolver.specs.Relations.{relation_of, rel_of, procedure_of}
 use Rattle.resolver.specs.Selects.{set_walk, filtered, union_of}
-use Rattle.resolver.specs.Walking.{next}
+use Rattle.expr_resolver.specs.Walking.{next}
 
 -- no aggregate may stand in it
 abbrev pub walk_alone : Names → Expr → Result Known Refusal

@@ -2,18 +2,17 @@
 
 ghost use Rattle.std.specs.Prelude.{◌≡◌, ◌==◌, IfOk, OnOk};
 ghost use Rattle.std.specs.List.{list_any};
-ghost use Rattle.resolver.specs.Answers.{Resolves};
+ghost use Rattle.expr_resolver.specs.Answers.{Resolves};
 ghost use Rattle.resolver.specs.Assigning as spec;
-ghost use Rattle.resolver.specs.Scope.{only, named};
+ghost use Rattle.expr_resolver.specs.Scope.{only, named};
 ghost use Rattle.vdb_model.specs.NameText.{name_text};
 
-use crate::aggregates::place;
-use crate::fault::ResolveFault;
-use crate::known::Known;
-use crate::lookup::add_named;
 use crate::selected::Column;
 use crate::targets::{Given, Targets};
-use crate::types::is_assignable;
+use expr_resolver::aggregates::place;
+use expr_resolver::lookup::add_named;
+use expr_resolver::types::is_assignable;
+use expr_resolver::{Known, ResolveFault};
 use sql_reader::tree::Name;
 use std::alloc::Global;
 use vdb_base::{NoMemory, Seq, Ty};

@@ -1,25 +1,23 @@
 //! What the parts of a FROM give.
 
 ghost use Rattle.std.specs.Prelude.{◌≡◌, ◌++◌, IfOk, OnOk, Ok};
-ghost use Rattle.resolver.specs.Answers.{Resolves};
+ghost use Rattle.expr_resolver.specs.Answers.{Resolves};
 ghost use Rattle.resolver.specs.From as spec;
-ghost use Rattle.resolver.specs.Exprs as exprs;
-ghost use Rattle.resolver.specs.Operators as op;
+ghost use Rattle.expr_resolver.specs.Exprs as exprs;
+ghost use Rattle.expr_resolver.specs.Operators as op;
 ghost use Rattle.resolver.specs.Selects as selects;
-ghost use Rattle.resolver.specs.Walking.{next, one};
+ghost use Rattle.expr_resolver.specs.Walking.{next, one};
 ghost use Rattle.vdb_model.specs.declared.rel.Rel.TheVariants as rel;
-ghost use Rattle.resolver.specs.declared.scope.Over.TheVariants.{Rows};
+ghost use Rattle.expr_resolver.specs.declared.scope.Over.TheVariants.{Rows};
 
-use crate::exprs::walk;
-use crate::fault::ResolveFault;
-use crate::known::Known;
-use crate::operators::condition;
 use crate::relation::Relation;
 use crate::relations::{rel_of, relation_of, written_relation};
-use crate::scope::{Entry, Names, Over};
 use crate::selected::{Column, Selected, Source};
-use crate::types::settled;
 use crate::unions::union_of;
+use expr_resolver::exprs::walk;
+use expr_resolver::operators::condition;
+use expr_resolver::types::settled;
+use expr_resolver::{Entry, Known, Names, Over, ResolveFault};
 use sql_reader::tree::{self, Name, RelationName};
 use sqlite_items::Boxed;
 use std::alloc::Global;

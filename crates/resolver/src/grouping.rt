@@ -1,20 +1,18 @@
 //! What stands in a select behind its FROM.
 
 ghost use Rattle.std.specs.Prelude.{◌≡◌, [], IfOk, Some};
-ghost use Rattle.resolver.specs.Answers.{Meets, Resolves};
+ghost use Rattle.expr_resolver.specs.Answers.{Meets, Resolves};
 ghost use Rattle.resolver.specs.Selects as spec;
 ghost use Rattle.sql_reader.specs.declared.tree.query.Select.{out-Select};
 
 use crate::aggregated::any_aggregate;
-use crate::exprs::walk;
-use crate::fault::ResolveFault;
 use crate::from::condition_of;
 use crate::items::{first_of, items_walk, split};
-use crate::known::Known;
-use crate::lookup::column_of;
-use crate::operators::condition;
-use crate::scope::{Entry, Names, Over};
 use crate::selected::{Choices, Selected, Source};
+use expr_resolver::exprs::walk;
+use expr_resolver::lookup::column_of;
+use expr_resolver::operators::condition;
+use expr_resolver::{Entry, Known, Names, Over, ResolveFault};
 use sql_reader::tree::{ColumnName, Expr, Select, SelectItem};
 use sqlite_items::{Boxed, Items};
 use std::alloc::Global;

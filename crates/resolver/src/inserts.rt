@@ -1,19 +1,17 @@
 //! INSERT, and expressions that see no column.
 
 ghost use Rattle.std.specs.Prelude.{◌≡◌, []};
-ghost use Rattle.resolver.specs.Answers.{Resolves};
+ghost use Rattle.expr_resolver.specs.Answers.{Resolves};
 ghost use Rattle.resolver.specs.Statements as spec;
 
 use crate::assigning::{listed_columns, of_columns, of_known, unfit_at};
-use crate::exprs::walk;
-use crate::fault::ResolveFault;
-use crate::known::{Known, Knowns};
-use crate::lists::exprs_of;
 use crate::relations::relation_of;
-use crate::scope::{Names, Over};
 use crate::selected::Selected;
 use crate::selects::set_walk;
 use crate::unions::union_of;
+use expr_resolver::exprs::walk;
+use expr_resolver::lists::exprs_of;
+use expr_resolver::{Known, Knowns, Names, Over, ResolveFault};
 use sql_reader::tree::{Expr, Insert, InsertSource};
 use sqlite_items::Boxed;
 use std::alloc::Global;

@@ -3,16 +3,14 @@
 ghost use Rattle.std.specs.Prelude.{◌≡◌, ◌++◌, [], IfOk, OnOk, Ok, codes};
 ghost use Rattle.std.specs.Option.{option_copied};
 ghost use Rattle.vdb_model.specs.Lines.{number_text};
-ghost use Rattle.resolver.specs.Answers.{Meets, Resolves};
+ghost use Rattle.expr_resolver.specs.Answers.{Meets, Resolves};
 ghost use Rattle.resolver.specs.Items as spec;
 
-use crate::aggregates::place;
-use crate::exprs::walk;
-use crate::fault::ResolveFault;
-use crate::known::Known;
-use crate::lookup::{column_over, last_name};
-use crate::scope::{Entry, Names, Over};
 use crate::selected::{Choices, Chosen, Column, Columns};
+use expr_resolver::aggregates::place;
+use expr_resolver::exprs::walk;
+use expr_resolver::lookup::{column_over, last_name};
+use expr_resolver::{Entry, Known, Names, Over, ResolveFault};
 use sql_reader::tree::{Expr, Name, SelectItem};
 use sqlite_items::Items;
 use std::alloc::Global;

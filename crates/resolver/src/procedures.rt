@@ -1,12 +1,12 @@
 //! Which procedure of the catalog a name means.
 
 ghost use Rattle.std.specs.Prelude.{◌≡◌, ◌++◌, IfOk};
-ghost use Rattle.resolver.specs.Answers.{Resolves};
+ghost use Rattle.expr_resolver.specs.Answers.{Resolves};
 ghost use Rattle.resolver.specs.Relations as spec;
 
-use crate::aggregates::place;
-use crate::fault::ResolveFault;
 use crate::relations::{is_meant, written_relation};
+use expr_resolver::ResolveFault;
+use expr_resolver::aggregates::place;
 use sql_reader::tree::RelationName;
 use std::alloc::Global;
 use vdb_base::{NoMemory, Seq, Tys};

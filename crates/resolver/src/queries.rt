@@ -1,15 +1,15 @@
 //! Whole queries: ORDER BY, LIMIT and OFFSET behind the selects.
 
 ghost use Rattle.std.specs.Prelude.{◌≡◌, [], IfOk};
-ghost use Rattle.resolver.specs.Answers.{Resolves};
+ghost use Rattle.expr_resolver.specs.Answers.{Resolves};
 ghost use Rattle.resolver.specs.Queries as spec;
 
-use crate::aggregates::place;
-use crate::fault::ResolveFault;
 use crate::selected::{Column, Selected};
 use crate::selects::set_walk;
-use crate::types::settled;
 use crate::unions::union_of;
+use expr_resolver::ResolveFault;
+use expr_resolver::aggregates::place;
+use expr_resolver::types::settled;
 use sql_reader::tree::{Constant, Key, KeyTarget, Literal, Name, Query};
 use std::alloc::Global;
 use vdb_base::{NoMemory, Seq, Text, Texts, Tys, Value};

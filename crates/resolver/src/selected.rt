@@ -1,6 +1,6 @@
 //! What FROM and selects give.
 
-use crate::scope::Entries;
+use expr_resolver::Entries;
 use vdb_base::{Seq, Text, Ty};
 use vdb_model::{Expr, Rel, Rels};
 

@@ -1,16 +1,16 @@
 //! Selects: FROM, WHERE, GROUP BY, HAVING, the items, and then the next select of the chain.
 
 ghost use Rattle.std.specs.Prelude.{◌≡◌, ◌++◌};
-ghost use Rattle.resolver.specs.Answers.{Resolves};
+ghost use Rattle.expr_resolver.specs.Answers.{Resolves};
 ghost use Rattle.resolver.specs.From as from;
 ghost use Rattle.resolver.specs.Selects as spec;
-ghost use Rattle.resolver.specs.Walking.{next};
+ghost use Rattle.expr_resolver.specs.Walking.{next};
 
-use crate::fault::ResolveFault;
 use crate::from::{crossed, derived, joined_by, seen_with, source_or_one, table_source, visible};
 use crate::grouping::{filtered, grouped_walk};
 use crate::selected::{Selected, Source};
 use crate::unions::united;
+use expr_resolver::ResolveFault;
 use sql_reader::tree::{JoinKind, Select, SetQuery, TableRef};
 use std::alloc::Global;
 use vdb_base::Text;

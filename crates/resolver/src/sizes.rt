@@ -2,11 +2,11 @@
 
 ghost use Rattle.std.specs.Prelude.{◌≡◌, IfOk};
 ghost use Rattle.std.specs.Option.{option_copied};
-ghost use Rattle.resolver.specs.Answers.{Resolves};
+ghost use Rattle.expr_resolver.specs.Answers.{Resolves};
 ghost use Rattle.resolver.specs.Statements as spec;
 ghost use Rattle.vdb_model.specs.Sizes.{nodes_of, depth_of};
 
-use crate::fault::ResolveFault;
+use expr_resolver::ResolveFault;
 use vdb_base::NoMemory;
 use vdb_model::{Catalog, Refusal, Rel, Typed};
 use view_stack::{Size, expanded_size};

@@ -1,24 +1,22 @@
 //! Statements other than INSERT, and the public call.
 
 ghost use Rattle.std.specs.Prelude.{◌≡◌, IfOk, OnOk};
-ghost use Rattle.resolver.specs.Answers.{Resolves};
+ghost use Rattle.expr_resolver.specs.Answers.{Resolves};
 ghost use Rattle.resolver.specs.Statements as spec;
 
 use crate::assigning::{assigned_value, of_known, target_column, unfit_at};
-use crate::fault::ResolveFault;
 use crate::from::table_entry;
 use crate::grouping::filtered;
 use crate::inserts::{first_or, insert_walk, walk_alone, walks_alone};
-use crate::known::Knowns;
-use crate::lists::exprs_of;
 use crate::procedures::procedure_of;
 use crate::queries::resolve_view;
 use crate::relation::Relation;
 use crate::relations::{rel_of, relation_of};
-use crate::scope::Names;
 use crate::selected::Source;
 use crate::sizes::within_size;
 use crate::targets::Sets;
+use expr_resolver::lists::exprs_of;
+use expr_resolver::{Knowns, Names, ResolveFault};
 use sql_reader::tree::{Assignment, Delete, Exec, Statement, Update};
 use sqlite_items::Items;
 use std::alloc::Global;

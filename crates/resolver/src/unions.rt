@@ -1,14 +1,14 @@
 //! UNION: two queries with columns that go together.
 
 ghost use Rattle.std.specs.Prelude.{◌≡◌, ◌∷◌, ◌++◌, [], IfOk};
-ghost use Rattle.resolver.specs.Answers.{Resolves};
+ghost use Rattle.expr_resolver.specs.Answers.{Resolves};
 ghost use Rattle.resolver.specs.Selects as spec;
-ghost use Rattle.resolver.specs.Types as types;
+ghost use Rattle.expr_resolver.specs.Types as types;
 ghost use Rattle.vdb_model.specs.declared.rel.Rel.TheVariants as rel;
 
-use crate::fault::ResolveFault;
 use crate::selected::{Column, Columns, Selected};
-use crate::types::common;
+use expr_resolver::ResolveFault;
+use expr_resolver::types::common;
 use sqlite_items::{Boxed, Items};
 use std::alloc::Global;
 use vdb_base::{NoMemory, Seq};

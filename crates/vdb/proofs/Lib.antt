@@ -1,4 +1,5 @@
 pub mod AnswerSteps
+pub mod ApartLanes
 pub mod Causes
 pub mod Cuts
 pub mod HeldWorld

@@ -1,5 +1,5 @@
 -- What a maker tells, and what its calls leave.
-use Rattle.std.specs.Prelude.{◌≡◌, ℕ, List, map, Option, Some, None, Result, Ok, Err}
+use Rattle.std.specs.Prelude.{◌≡◌, ℕ, List, [], ◌∷◌, map, Option, Some, None, Result, Ok, Err}
 use Rattle.vdb_base.specs.Counts.{Rose}
 use Rattle.vdb_model.specs.declared.table.Kind.{Kind}
 use Rattle.resource.specs.Lanes.{labels_of}
@@ -27,6 +27,10 @@ GivesBack (Some held) new p = new ≡ Some (Some p)
 -- the names and kinds of the connections
 abbrev pub labels : List Conn → List (List ℕ × Kind)
 labels conns = map (λ conn. (conn.name, conn.kind)) conns
+
+abbrev pub conn_names : List Conn → List (List ℕ)
+conn_names [] = []
+conn_names (conn ∷ conns) = conn.name ∷ conn_names conns
 
 -- the parts have one lane per connection, of its name and kind, in their order
 abbrev pub AreFor : {S : Type 0} → Setup → Parts S → Type 0

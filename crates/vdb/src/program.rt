@@ -1,10 +1,12 @@
 //! The whole program.
 
-ghost use Rattle.std.specs.Prelude.{◌≡◌, map};
+ghost use Rattle.std.specs.Prelude.{◌≡◌, map, IsTrue};
 ghost use Rattle.std.specs.String.{string_bytes};
 ghost use Rattle.vdb.specs.Running.{IsRun, Finishes, words_ending};
 ghost use Rattle.vdb.specs.Headline.{Headline};
 ghost use Rattle.vdb.specs.Causes.{Causes, Complete};
+ghost use Rattle.vdb.specs.Making.{conn_names};
+ghost use Rattle.vdb_session.specs.Lanes.{are_apart};
 
 use crate::ending::{Ending, status_of};
 use crate::last_line::print_last;
@@ -23,6 +25,7 @@ fn run_setup<M: Maker, I: Feed, O: Sink>(
     script: &mut I,
     out: &mut O,
 ) -> Ending
+    requires apart { IsTrue (are_apart (conn_names setup.now.conns)) }
     ensures { IsRun M.S.told setup.now (M.told maker.old) (M.told maker.new) (I.told script.old) (I.told script.new) (O.told out.old) (O.told out.new) result }
 {
     let parts = match maker.make(setup) {

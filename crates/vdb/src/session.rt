@@ -1,5 +1,7 @@
 //! A run over parts that were made.
 
+ghost use Rattle.std.specs.Prelude.{IsTrue};
+ghost use Rattle.vdb_session.specs.Lanes.{are_apart, names_of};
 ghost use Rattle.vdb.specs.Session.{pieces_read, IsScriptRun, IsSession};
 ghost use Rattle.vdb.specs.Answering.{IsAnswered};
 
@@ -61,6 +63,7 @@ pub fn run_parts<S: Resource, I: Feed, O: Sink>(
     script: &mut I,
     out: &mut O,
 ) -> Ran<S>
+    requires apart { IsTrue (are_apart (names_of parts.lanes)) }
     ensures { IsSession S.told parts result.parts (I.told script.old) (I.told script.new) (O.told out.old) (O.told out.new) result.ending }
 {
     let mut engine = match Engine::start(parts, alloc) {

@@ -1,5 +1,8 @@
 //! What no clause says: what an engine over three stores replies, printed.
 
+ghost use Rattle.std.specs.Prelude.{IsTrue, IfOk};
+ghost use Rattle.vdb_session.specs.Lanes.{are_apart, names_of};
+
 use crate::program_tests::{Cell, PLAIN, row, seq};
 use resource::{Lane, Lanes, MemResource, StoredTable, Tables};
 use std::alloc::Global;
@@ -7,7 +10,7 @@ use std::test::Fail;
 use vdb_base::{MemSink, NoMemory, Seq, Text};
 use vdb_lines::print_deploy;
 use vdb_model::{Kind, Reply};
-use vdb_session::{Answer, Engine, Parts, StartFault, print_reply};
+use vdb_session::{Answer, Engine, Parts, StartFault, are_apart, print_reply};
 
 /// Customers, orders and a price list on three servers, with views over them.
 const SHOP: &str = "CREATE DATABASE shop; USE DATABASE shop;
@@ -149,7 +152,9 @@ fn lane(
 }
 
 /// The shop's three lanes; the calls of the orders' fail where they are listed.
-fn shop(alloc: Global, ddl: &str, fails: &[u32]) -> Result<Parts<MemResource>, Fail> {
+fn shop(alloc: Global, ddl: &str, fails: &[u32]) -> Result<Parts<MemResource>, Fail>
+    ensures { IfOk result (λ parts. IsTrue (are_apart (names_of parts.lanes))) }
+{
     let customers = one_table(alloc, "cust", CUST.as_slice())?;
     let orders = one_table(alloc, "orders", ORDERS.as_slice())?;
     let prices = price_list(alloc)?;
@@ -157,9 +162,13 @@ fn shop(alloc: Global, ddl: &str, fails: &[u32]) -> Result<Parts<MemResource>, F
     lanes.push(lane(alloc, "crm", Kind::Mem, customers, &[])?)?;
     lanes.push(lane(alloc, "ord", Kind::Mem, orders, fails)?)?;
     lanes.push(lane(alloc, "ref", Kind::Csv, prices, &[])?)?;
+    let lanes = Lanes::from_vec(lanes);
+    if !are_apart(&lanes) {
+        return Err("two lanes have one name".into());
+    }
     Ok(Parts {
         ddl: seq(alloc, ddl.as_bytes())?,
-        lanes: Lanes::from_vec(lanes),
+        lanes,
     })
 }
 

@@ -1,5 +1,5 @@
 -- What holds along every rearrangement of a list.
-use Rattle.std.proofs.Common.{◌≡◌, ◌∙◌, ◌+◌, ◌<◌, ◌++◌, List, [], ◌∷◌, ℕ, zero, suc, sym, refl, subst, ap, Bool, true, false, if◌then◌else◌, filter, flat_map, append_assoc, get_or, IsPermutation, length, arith}
+use Rattle.std.proofs.Common.{◌≡◌, ◌+◌, ◌<◌, ◌++◌, List, [], ◌∷◌, ℕ, zero, suc, sym, refl, subst, ap, Bool, true, false, if◌then◌else◌, filter, flat_map, append_assoc, get_or, IsPermutation, length, arith}
 use Rattle.std.proofs.Math.ListN.{set}
 use Rattle.std.proofs.lemmas.List.Edits.{swap_is}
 use Rattle.std.proofs.lemmas.List.Sorted.{IsPermutation-refl, IsPermutation-trans, IsPermutation-append_left, IsPermutation-append_right, IsPermutation-append_comm, IsPermutation-keeps}

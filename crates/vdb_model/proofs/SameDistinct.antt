@@ -1,16 +1,14 @@
 -- Distinct keeps lists of rows that are rearrangements of each other.
-use Rattle.std.proofs.Common.{◌≡◌, ◌∙◌, ◌++◌, List, [], ◌∷◌, ap, sym, refl, subst, Bool, true, false, ◌||◌, if◌then◌else◌, IsPermutation}
+use Rattle.std.proofs.Common.{◌≡◌, ◌∙◌, ◌++◌, List, [], ◌∷◌, ap, sym, refl, subst, Bool, true, false, ◌||◌, IsPermutation}
 use Rattle.std.specs.List.{list_any}
 use Rattle.std.specs.Ordering.{is_eq}
 use Rattle.std.specs.declared.cmp.Ordering.{Ordering}
 use Rattle.std.specs.declared.cmp.Ordering.TheVariants.{Less, Equal, Greater}
 use Rattle.std.specs.FinMap.{IsAntisymmetric, nat_cmp-IsAntisymmetric, int_cmp-IsAntisymmetric, slice_cmp-IsAntisymmetric}
 use Rattle.std.specs.Ordering.{bool_cmp, int_cmp, nat_cmp}
-use Rattle.std.proofs.Common.{true≢false, ℕ}
 use Rattle.std.proofs.lemmas.List.Sorted.{IsPermutation-refl, IsPermutation-trans, IsPermutation-append, IsPermutation-append_left, IsPermutation-append_comm, IsPermutation-cons}
 use Rattle.std.proofs.lemmas.List.Folds.{list_any-append}
 use Rattle.vdb_model.proofs.Rearranged.{along}
-use Rattle.vdb_base.specs.declared.value.Value.{Value}
 use Rattle.vdb_base.specs.declared.value.Value.TheVariants.{Null, Bool as Truth, Num, Str}
 use Rattle.vdb_base.specs.Order.{value_cmp, row_cmp}
 use Rattle.vdb_model.specs.Rows.{Cells, same_row, distinct_after, distinct_rows}

@@ -4,17 +4,16 @@ use Rattle.std.specs.Prelude.{codes}
 use Rattle.std.specs.Fmt.{digits}
 use Rattle.vdb_base.specs.declared.value.Value.{Value}
 use Rattle.vdb_base.specs.declared.value.Value.TheVariants.{Null, Bool as Truth, Num, Str}
-use Rattle.vdb_model.specs.declared.expr.CmpOp.TheVariants.{Eq, Lt}
+use Rattle.vdb_model.specs.declared.expr.CmpOp.TheVariants.{Eq}
 use Rattle.vdb_model.specs.declared.reply.Reply.TheVariants.{Rows}
-use Rattle.vdb_model.specs.declared.reply.Refusal.TheVariants.{Syntax, DuplicateKey, LogFull, BudgetSpent}
+use Rattle.vdb_model.specs.declared.reply.Refusal.TheVariants.{DuplicateKey, BudgetSpent}
 use Rattle.vdb_model.specs.declared.reply.DeployFault.TheVariants.{BadCell, BadStore}
 use Rattle.vdb_model.specs.declared.reply.Who.TheVariants.{Lane}
 use Rattle.vdb_model.specs.declared.reply.Phase.TheVariants.{Undecided}
-use Rattle.vdb_model.specs.Logic.{compared, is_in, all_of, any_of, not_of}
+use Rattle.vdb_model.specs.Logic.{compared, is_in, all_of, any_of}
 use Rattle.vdb_model.specs.Words.{is_like}
 use Rattle.vdb_model.specs.Rows.{Cells, distinct_rows, cut_rows}
 use Rattle.vdb_model.specs.Groups.{key_lists, members, sum_of, min_of, max_of}
-use Rattle.vdb_model.specs.Keys.{total_cmp}
 use Rattle.vdb_model.specs.Arranged.{arranged}
 use Rattle.vdb_model.specs.Lines.{number_text}
 use Rattle.vdb_model.specs.NameText.{name_text, column_text}

@@ -28,3 +28,4 @@ pub mod Stacked
 pub mod Chains
 pub mod Columns
 pub mod WellFormed
+pub mod Deltas

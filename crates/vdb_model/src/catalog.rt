@@ -77,7 +77,8 @@ pub struct TriggerDef {
 
 pub type TriggerDefs = Seq<TriggerDef>;
 
-/// All that a deployment defines, each list in the order of the DDL. Contracts see it as the record of its lists.
+/// All that a deployment defines, each list in the order of the DDL. Contracts see it as the record of its lists, and it is
+/// well formed at every moment.
 #[derive(Drop)]
 pub struct Catalog {
     servers: ServerDefs,
@@ -94,16 +95,20 @@ impl Model for Catalog {
     ghost use Rattle.vdb_model.specs.contracts.expr.Expr as expr;
     ghost use Rattle.vdb_model.specs.contracts.rel.Rel as rel;
     ghost use Rattle.vdb_model.specs.contracts.typed.TypedStmt as stmt;
+    ghost use Rattle.vdb_model.specs.WellFormed.{IsWellFormed};
 
     ghost Value = { Defined };
 
     ghost coded = { Prim.hlevel (codes, expr.the_row.coded, rel.the_row.coded, stmt.the_row.coded) };
 
     ghost view = { λ c. record { servers = c.servers; schemas = c.schemas; tables = c.tables; views = c.views; procedures = c.procedures; triggers = c.triggers } };
+
+    ghost invariant = { λ c. IsWellFormed (record { servers = c.servers; schemas = c.schemas; tables = c.tables; views = c.views; procedures = c.procedures; triggers = c.triggers }) };
 }
 
 impl Catalog {
     ghost use Rattle.vdb_model.specs.Defined.{Defined, nothing_defined};
+    ghost use Rattle.vdb_model.specs.WellFormed.{IsWellFormed};
 
     /// A catalog that defines nothing.
     pub fn new(alloc: Global) -> Catalog
@@ -119,34 +124,16 @@ impl Catalog {
         }
     }
 
-    /// A catalog of servers, schemas and foreign tables alone.
-    pub fn of_tables(
-        alloc: Global,
-        servers: ServerDefs,
-        schemas: SchemaDefs,
-        tables: TableDefs,
-    ) -> Catalog
-        ensures { result ≡ record nothing_defined { servers = servers; schemas = schemas; tables = tables } }
+    /// What every catalog is. Nothing is done.
+    pub fn is_well_formed(&self)
+        ensures { IsWellFormed self.now }
     {
-        Catalog {
-            servers,
-            schemas,
-            tables,
-            views: Seq::new(alloc),
-            procedures: Seq::new(alloc),
-            triggers: Seq::new(alloc),
-        }
-    }
-
-    /// The same catalog with these views.
-    pub fn with_views(self, views: ViewDefs) -> Catalog
-        ensures { result ≡ record self { views = views } }
-    {
-        Catalog { views, ..self }
+        let _ = &self.servers;
     }
 
     /// Adds a server after the others.
     pub fn add_server(&mut self, server: ServerDef) -> Result<(), NoMemory>
+        requires { IsWellFormed (record self.old { servers = self.old.servers ++ server ∷ [] }) }
         ensures ok { OnOk result (self.new ≡ record self.old { servers = self.old.servers ++ server ∷ [] }) }
         ensures err { OnErr result (self.new ≡ self.old) }
     {
@@ -155,6 +142,7 @@ impl Catalog {
 
     /// Adds a schema after the others.
     pub fn add_schema(&mut self, schema: SchemaDef) -> Result<(), NoMemory>
+        requires { IsWellFormed (record self.old { schemas = self.old.schemas ++ schema ∷ [] }) }
         ensures ok { OnOk result (self.new ≡ record self.old { schemas = self.old.schemas ++ schema ∷ [] }) }
         ensures err { OnErr result (self.new ≡ self.old) }
     {
@@ -163,6 +151,7 @@ impl Catalog {
 
     /// Adds a foreign table after the others.
     pub fn add_table(&mut self, table: TableDef) -> Result<(), NoMemory>
+        requires { IsWellFormed (record self.old { tables = self.old.tables ++ table ∷ [] }) }
         ensures ok { OnOk result (self.new ≡ record self.old { tables = self.old.tables ++ table ∷ [] }) }
         ensures err { OnErr result (self.new ≡ self.old) }
     {
@@ -171,6 +160,7 @@ impl Catalog {
 
     /// Adds a view after the others.
     pub fn add_view(&mut self, view: ViewDef) -> Result<(), NoMemory>
+        requires { IsWellFormed (record self.old { views = self.old.views ++ view ∷ [] }) }
         ensures ok { OnOk result (self.new ≡ record self.old { views = self.old.views ++ view ∷ [] }) }
         ensures err { OnErr result (self.new ≡ self.old) }
     {

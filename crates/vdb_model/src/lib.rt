@@ -4,7 +4,9 @@
 //! a relation in a world, arranged rows, which source queries a source can answer and what it may answer, the lines of
 //! replies and refusals, and which catalogs are well formed. The types are those of trees whose names are resolved; each list
 //! of them can be copied, and a copy equals its original. `Caps::can` is the test of capabilities, and `typed_is_exact` the
-//! law that on typed expressions every number stays within 128 bits. `Catalog` doesn't keep yet that it is well formed.
+//! law that on typed expressions every number stays within 128 bits. A `Catalog` keeps that it is well formed.
+//!
+//! Every crate from `rel_eval` and `view_stack` up stands on this one.
 #![tactic(auto)]
 
 mod bag;

@@ -74,6 +74,6 @@ ready_stays told failed ddl cat was is old new a r =
     let many = as_many told failed old new a in
     record {
       few = omega (arith, many, r.few);
-      stacked = r.stacked;
+      patterns = r.patterns;
       are_attached = attached_stay told failed cat old new a r.are_attached;
     }

@@ -4,13 +4,14 @@ use Rattle.std.proofs.Math.ListN.{get_or-append}
 use Rattle.std.proofs.Math.Seq.{get_or-append_seam}
 use Rattle.std.specs.Prelude.{IfSome, IsPermutation, OnOk, is_err}
 use Rattle.std.proofs.lemmas.List.{length-append}
-use Rattle.catalog_laws.specs.Stacked.{IsStacked}
+use Rattle.catalog_laws.specs.Over.{HasNoPatterns}
 use Rattle.vdb_model.specs.declared.bag.Bag.{Bag}
 use Rattle.vdb_model.specs.declared.table.TableDef.{TableDef}
 use Rattle.vdb_model.specs.Defined.{Defined}
 use Rattle.vdb_model.specs.Defs.{no_table}
 use Rattle.vdb_model.specs.Relations.{no_bag}
 use Rattle.vdb_model.specs.Rows.{Cells}
+use Rattle.vdb_model.specs.WellFormed.{IsWellFormed}
 use Rattle.processor.specs.Reads.{mark}
 use Rattle.resource.specs.declared.lane.Lane.{Lane}
 use Rattle.resource.specs.Told.{Told}
@@ -50,12 +51,12 @@ pub fetched_more : {S : Type 0} (told : S → Told) (cat : Defined) (lanes : Lis
 fetched_more told cat lanes marks at bags bag count before here = λ n h m. fetched_at told cat lanes marks at bags bag n (less_or_same n at h) count m before here
 
 -- each table in turn may be asked for of lanes that were asked before
-pub may_ask_now : {S : Type 0} (told : S → Told) (cat : Defined) (old now : List (Lane S)) (tables : List TableDef) (at : ℕ) (d : TableDef) → IsStacked cat → AreAttached told cat old → AreAsked told None old now
+pub may_ask_now : {S : Type 0} (told : S → Told) (cat : Defined) (old now : List (Lane S)) (tables : List TableDef) (at : ℕ) (d : TableDef) → IsWellFormed cat → HasNoPatterns cat → AreAttached told cat old → AreAsked told None old now
     → tables ≡ cat.tables → d ≡ slice_index_or tables at d → at < length tables → MayAsk told cat d now
-may_ask_now told cat old now tables at d s a asked e is h =
+may_ask_now told cat old now tables at d well free a asked e is h =
     let there : at < length cat.tables = subst (λ (ds : List TableDef). at < length ds) e h in
     let it : d ≡ slice_index_or cat.tables at d = is ∙ ap (λ (ds : List TableDef). slice_index_or ds at d) e in
-    subst (λ (d : TableDef). MayAsk told cat d now) (sym it) (may_ask_each told cat now s (attached_stay told None cat old now asked a) at d there)
+    subst (λ (d : TableDef). MayAsk told cat d now) (sym it) (may_ask_each told cat now well free (attached_stay told None cat old now asked a) at d there)
 
 -- what an Ok answer says
 pub pushed : {T E : Type 0} (r : Result T E) (P : Type 0) → is_err r ≡ false → OnOk r P → P

@@ -9,5 +9,6 @@ pub mod SameWorlds
 pub mod Stepped
 pub mod AttachedLanes
 pub mod AnswerSays
+pub mod FitLanes
 pub mod StartSays
 pub mod QueryWalks

@@ -12,12 +12,12 @@ use Rattle.sql_reader.specs.declared.tree.query.Query.{Query}
 use Rattle.sql_reader.specs.declared.tree.statement.Statement.{Statement}
 use Rattle.sql_reader.specs.declared.tree.statement.Statement.TheVariants as statement
 use Rattle.sql_reader.specs.Trees.{IsStatement}
-use Rattle.resolver.specs.declared.fault.ResolveFault.{ResolveFault}
-use Rattle.resolver.specs.declared.fault.ResolveFault.TheVariants as fault
-use Rattle.resolver.specs.Answers.{Resolves}
+use Rattle.expr_resolver.specs.declared.fault.ResolveFault.{ResolveFault}
+use Rattle.expr_resolver.specs.declared.fault.ResolveFault.TheVariants as fault
+use Rattle.expr_resolver.specs.Answers.{Resolves}
 use Rattle.resolver.specs.Queries.{query_walk}
 use Rattle.resolver.specs.Statements.{resolved, sized_rel, within_size}
-use Rattle.resolver.specs.Walking.{next}
+use Rattle.expr_resolver.specs.Walking.{next}
 use Rattle.vdb_session.specs.declared.queries.NoQuery.{NoQuery}
 use Rattle.vdb_session.specs.declared.queries.NoQuery.TheVariants as no_query
 use Rattle.vdb_session.specs.Meaning.{is_later}

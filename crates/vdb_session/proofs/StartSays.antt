@@ -1,9 +1,8 @@
 -- What a start answers and leaves.
-use Rattle.std.proofs.Common.{◌≡◌, ℕ, Bool, false, List, map, Option, Some, None, Ok, Err, inl, inr, refl, ap, ◌∙◌, subst}
+use Rattle.std.proofs.Common.{◌≡◌, ℕ, Bool, false, List, Option, Some, None, Ok, Err, inl, inr, refl, ap, ◌∙◌, subst}
 use Rattle.std.specs.Prelude.{IfSome}
 use Rattle.vdb_model.specs.declared.reply.DeployFault.{DeployFault}
 use Rattle.vdb_model.specs.Defined.{Defined}
-use Rattle.catalog_laws.proofs.HeldItems.{deployed_is_stacked}
 use Rattle.resource.specs.declared.lane.Lane.{Lane}
 use Rattle.resource.specs.declared.resource.AttachFault.{AttachFault}
 use Rattle.resource.specs.declared.resource.AttachFault.TheVariants as attach
@@ -17,7 +16,7 @@ use Rattle.vdb_session.specs.Attaching.{AttachesOne, StayStored, BreaksFirst}
 use Rattle.vdb_session.specs.Deploying.{DeploysText, StartedOver}
 use Rattle.vdb_session.specs.Lanes.{store}
 use Rattle.vdb_session.specs.Shown.{tables_for, sees, holds}
-use Rattle.vdb_session.specs.Starting.{cell_fault, connection, failed_lane, refusal_of, Deploys, HasReason, IsStartFault, Started, NotStarted}
+use Rattle.vdb_session.specs.Starting.{cell_fault, failed_lane, refusal_of, Deploys, HasReason, IsStartFault, Started, NotStarted}
 use Rattle.vdb_session.proofs.SameWorlds.{world_same}
 
 same_store : (old new : Told) (defs : List TableDef) (a : AttachFault) → Attaches defs old new (Err a) → store new ≡ store old
@@ -115,6 +114,6 @@ pub ready : {S : Type 0} (told : S → Told) (ddl : List ℕ) (cat : Defined) (b
     → IsReady told (record { parts = record { ddl = ddl; lanes = new }; catalog = cat; broken = broken })
 ready told ddl cat broken old new h = record {
   few = h.few;
-  stacked = deployed_is_stacked (map (connection told) old) h.deploys.items cat h.deploys.deploys;
+  patterns = h.patterns;
   are_attached = h.attached.attached;
 }

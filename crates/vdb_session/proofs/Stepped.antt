@@ -1,5 +1,5 @@
 -- A loop that changes each element of a slice in turn.
-use Rattle.std.proofs.Common.{◌≡◌, ℕ, ◌+◌, ◌-◌, ◌<◌, ◌≤◌, List, ◌∷◌, ◌++◌, length, get_or, take, drop, set, map, refl, sym, ap, ◌∙◌, arith}
+use Rattle.std.proofs.Common.{◌≡◌, ℕ, ◌+◌, ◌<◌, ◌≤◌, List, ◌∷◌, ◌++◌, length, get_or, take, drop, set, map, refl, sym, ap, ◌∙◌, arith}
 use Rattle.std.proofs.lemmas.List.{map-append, take-append-drop, drop_more, take_more, take_more_set, take-set, drop-set, drop-set-lt, take_all, length-drop}
 use Rattle.std.proofs.lemmas.Grind.{drop_more_same}
 

@@ -13,9 +13,9 @@ use Rattle.vdb_model.specs.Can.{can}
 use Rattle.vdb_model.specs.Defined.{Defined}
 use Rattle.vdb_model.specs.Defs.{def_of, is_defined, all_below}
 use Rattle.vdb_model.specs.Rows.{Cells, cut_rows}
-use Rattle.vdb_model.specs.WellFormed.{tables_on, are_placed}
+use Rattle.vdb_model.specs.WellFormed.{IsWellFormed, tables_on, are_placed}
 use Rattle.vdb_model.specs.World.{table_rows}
-use Rattle.catalog_laws.specs.Stacked.{IsStacked}
+use Rattle.catalog_laws.specs.Over.{HasNoPatterns}
 use Rattle.resource.specs.declared.lane.Lane.{Lane}
 use Rattle.resource.specs.declared.resource.ResFault.{ResFault}
 use Rattle.resource.specs.declared.resource.ResFault.TheVariants as res
@@ -23,7 +23,7 @@ use Rattle.resource.specs.Asks.{AnswersQuery}
 use Rattle.resource.specs.Told.{Told, Queries}
 use Rattle.vdb_session.specs.Fetching.{whole, at_lane, failed_lane, HasRows, AskedHere, MayAsk, MayAskEach, MayAskHere, AreAttached, AreRows, IsServing}
 use Rattle.vdb_session.specs.Lanes.{AreAsked, attached}
-use Rattle.vdb_session.specs.Shown.{numbers, rows_of_table, serves, lane_from, is_number, server_from, server_shows, sees, tables_of_server}
+use Rattle.vdb_session.specs.Shown.{numbers, rows_of_table, lane_from, is_number, server_from, server_shows, sees, tables_of_server}
 use Rattle.vdb_session.proofs.AskedLanes.{asked_at, failed_at}
 use Rattle.vdb_session.proofs.ServedLanes.{found_from, within_from, shows_nothing}
 
@@ -151,13 +151,13 @@ for_number cat n None e = cc
 for_number cat n (Some m) e = ap (λ k. tables_on k cat.tables) (same_number m n e)
 
 -- each lane that serves a server may be asked for each of its tables
-pub may_ask_each : {S : Type 0} (told : S → Told) (cat : Defined) (lanes : List (Lane S)) → IsStacked cat → AreAttached told cat lanes → MayAskEach told cat lanes
-may_ask_each told cat lanes s a = λ k d h i lane l serving.
+pub may_ask_each : {S : Type 0} (told : S → Told) (cat : Defined) (lanes : List (Lane S)) → IsWellFormed cat → HasNoPatterns cat → AreAttached told cat lanes → MayAskEach told cat lanes
+may_ask_each told cat lanes well free a = λ k d h i lane l serving.
     let table = slice_index_or cat.tables k d in
     let name = (slice_index_or lanes i lane).name in
     may_ask_here cat table (told (slice_index_or lanes i lane).res)
     (a i lane l ∙ ap Some (for_number cat table.server (server_from 0 cat.servers name) serving))
-    (defines_at 0 cat.tables k d s.placed h) (s.tables k d h).patterns
+    (defines_at 0 cat.tables k d well.placed h) (free k d h)
 
 -- The rows of one table.
 told_rows : (d : TableDef) (ds : List TableDef) (rows : List Cells) (defs : Option (List TableDef)) (work : Option (List (List Cells))) → defs ≡ Some ds

@@ -1,6 +1,6 @@
 -- What one answer of an engine says and leaves.
 use Rattle.std.specs.Prelude.{◌≡◌, ℕ, ◌≤◌, ◌<◌, Bool, true, List, length, Option, Some, None, Result, Ok, Err, map, ⊤}
-use Rattle.catalog_laws.specs.Stacked.{IsStacked}
+use Rattle.catalog_laws.specs.Over.{HasNoPatterns}
 use Rattle.vdb_model.specs.declared.rel.Ranked.{Ranked}
 use Rattle.vdb_model.specs.declared.reply.Reply.TheVariants as reply
 use Rattle.vdb_model.specs.Defined.{Defined}
@@ -64,8 +64,8 @@ abbrev pub is_broken_by : Answer → Bool → Bool
 is_broken_by (answer.Reply r) broken = broken
 is_broken_by (answer.Fault lane) broken = true
 
--- what an engine keeps: a stacked catalog, and each lane attached to the tables of its server
+-- what an engine keeps: no table of its catalog has an access pattern, and each lane is attached to the tables of its server
 pub record IsReady {S : Type 0} (told : S → Told) (engine : Opened S) : Type 0 where
   pub few : length engine.parts.lanes ≤ 4294967295
-  pub stacked : IsStacked engine.catalog
+  pub patterns : HasNoPatterns engine.catalog
   pub are_attached : AreAttached told engine.catalog engine.parts.lanes

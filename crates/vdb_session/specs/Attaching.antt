@@ -1,7 +1,8 @@
 -- Attaching each lane to the tables of its server.
-use Rattle.std.specs.Prelude.{◌≡◌, ℕ, List, All, map, Option, Some, None, Result, Ok, Err, ⊤}
+use Rattle.std.specs.Prelude.{◌≡◌, ℕ, List, All, map, Option, Some, None, Result, Ok, Err, IsTrue, ⊤}
 use Rattle.vdb_base.specs.Counts.{Rose}
 use Rattle.vdb_model.specs.Defined.{Defined}
+use Rattle.vdb_model.specs.Defs.{are_fit}
 use Rattle.resource.specs.declared.lane.Lane.{Lane}
 use Rattle.resource.specs.Lanes.{told_of, labels_of, counts_of}
 use Rattle.resource.specs.Told.{Told, under}
@@ -11,6 +12,10 @@ use Rattle.vdb_session.specs.Fetching.{AreAttached}
 use Rattle.vdb_session.specs.Lanes.{LaneCounts, store}
 use Rattle.vdb_session.specs.Shown.{tables_for, sees, holds}
 use Rattle.vdb_session.specs.Starting.{failed_lane, IsFirstBad, ReadsAs}
+
+-- the tables of its server are fit for the lane's store
+abbrev pub TakesTables : {S : Type 0} → (S → Told) → Defined → Lane S → Type 0
+TakesTables told cat lane = IsTrue (are_fit (told lane.res).caps (tables_for cat lane.name))
 
 -- a lane after it was attached to the tables of its server
 abbrev pub attaching : {S : Type 0} → (S → Told) → Defined → Lane S → Told

@@ -1,10 +1,21 @@
 -- What calls on lanes leave of them.
-use Rattle.std.specs.Prelude.{◌≡◌, ℕ, List, ◌∷◌, ◌++◌, length, map, Option, Some, None}
+use Rattle.std.specs.Prelude.{◌≡◌, ℕ, Bool, true, not, ◌&&◌, List, [], ◌∷◌, ◌++◌, length, map, Option, Some, None}
+use Rattle.std.specs.List.{list_any}
 use Rattle.vdb_base.specs.Counts.{Rose}
+use Rattle.vdb_model.specs.Defs.{same_name}
 use Rattle.resource.specs.declared.lane.Lane.{Lane}
 use Rattle.resource.specs.Lanes.{told_of, labels_of, counts_of}
 use Rattle.resource.specs.Told.{Told}
 use Rattle.vdb_session.specs.declared.parts.Parts.{Parts}
+
+abbrev pub names_of : {S : Type 0} → List (Lane S) → List (List ℕ)
+names_of [] = []
+names_of (lane ∷ lanes) = lane.name ∷ names_of lanes
+
+-- no two of these are one name
+abbrev pub are_apart : List (List ℕ) → Bool
+are_apart [] = true
+are_apart (name ∷ names) = not (list_any (same_name name) names) && are_apart names
 
 -- the count at this place rose, and no other moved
 pub record RoseAt (lane : ℕ) (old new : List ℕ) : Type 0 where

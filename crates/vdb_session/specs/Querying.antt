@@ -15,11 +15,11 @@ use Rattle.vdb_model.specs.Sizes.{nodes_of, depth_of}
 use Rattle.vdb_model.specs.World.{rows_in}
 use Rattle.sql_reader.specs.declared.tree.statement.Statement.{Statement}
 use Rattle.sql_reader.specs.declared.tree.query.Query.{Query}
-use Rattle.resolver.specs.declared.fault.ResolveFault.{ResolveFault}
-use Rattle.resolver.specs.declared.fault.ResolveFault.TheVariants as fault
+use Rattle.expr_resolver.specs.declared.fault.ResolveFault.{ResolveFault}
+use Rattle.expr_resolver.specs.declared.fault.ResolveFault.TheVariants as fault
 use Rattle.resolver.specs.Queries.{query_walk}
 use Rattle.resolver.specs.Statements.{resolved, unless_large}
-use Rattle.resolver.specs.Walking.{next}
+use Rattle.expr_resolver.specs.Walking.{next}
 use Rattle.resource.specs.declared.lane.Lane.{Lane}
 use Rattle.resource.specs.Told.{Told}
 use Rattle.vdb_session.specs.declared.queries.NoQuery.{NoQuery}

@@ -1,7 +1,7 @@
 //! Answers one statement over lanes.
 
 ghost use Rattle.std.specs.Prelude.{◌≡◌, ◌≤◌, length, None, IsTrue};
-ghost use Rattle.catalog_laws.specs.Stacked.{IsStacked};
+ghost use Rattle.catalog_laws.specs.Over.{HasNoPatterns};
 ghost use Rattle.resource.specs.Told.{unasked};
 ghost use Rattle.vdb_model.specs.Stacked.{names_first};
 ghost use Rattle.vdb_session.specs.Answer as spec;
@@ -68,7 +68,7 @@ fn rows_answer<S: Resource>(
     query: Ranked,
 ) -> Answer
     requires few { length lanes.old ≤ 4294967295 }
-    requires stacked { IsStacked cat.now }
+    requires patterns { HasNoPatterns cat.now }
     requires named { IsTrue (names_first (length cat.now.views) query.rel) }
     requires attached { AreAttached S.told cat.now lanes.old }
     ensures asked { AreAsked S.told (spec.failed_in result) lanes.old lanes.new }
@@ -87,7 +87,7 @@ fn answer_on<S: Resource>(
     base: u64,
 ) -> Answer
     requires few { length lanes.old ≤ 4294967295 }
-    requires stacked { IsStacked cat.now }
+    requires patterns { HasNoPatterns cat.now }
     requires attached { AreAttached S.told cat.now lanes.old }
     ensures asked { AreAsked S.told (spec.failed_in result) lanes.old lanes.new }
     ensures answer { spec.IsAnswer cat.now (world_by (sees S.told) cat.now lanes.old) (record { at = base; text = text.now }) (length lanes.old) result }
@@ -110,7 +110,7 @@ pub fn answer_over<S: Resource>(
     base: u64,
 ) -> Answer
     requires few { length lanes.old ≤ 4294967295 }
-    requires stacked { IsStacked cat.now }
+    requires patterns { HasNoPatterns cat.now }
     requires attached { AreAttached S.told cat.now lanes.old }
     ensures asked { AreAsked S.told (spec.failed_in result) lanes.old lanes.new }
     ensures answer { spec.IsAnswer cat.now (world_by (sees S.told) cat.now lanes.old) (record { at = base; text = text.now }) (length lanes.old) result }

@@ -1,6 +1,6 @@
 //! Attaching each lane to the tables of its server.
 
-ghost use Rattle.std.specs.Prelude.{◌≡◌, ◌≤◌, length, IfOk};
+ghost use Rattle.std.specs.Prelude.{◌≡◌, ◌≤◌, length, All, IfOk};
 ghost use Rattle.vdb_session.specs.Attaching as spec;
 ghost use Rattle.vdb_session.specs.Shown as shown;
 ghost use Rattle.vdb_model.specs.WellFormed as formed;
@@ -11,7 +11,7 @@ use crate::starting::start_fault;
 use resource::{Lane, Resource};
 use std::alloc::Global;
 use vdb_base::{NoMemory, Seq, Text};
-use vdb_model::{Catalog, TableDef, TableDefs, are_fit};
+use vdb_model::{Catalog, TableDef, TableDefs};
 
 /// The tables of a server.
 fn tables_on(alloc: Global, tables: &[TableDef], server: usize) -> Result<TableDefs, NoMemory>
@@ -36,14 +36,14 @@ fn tables_for(alloc: Global, cat: &Catalog, name: &Text) -> Result<TableDefs, No
     }
 }
 
-/// Attaches the lane at the place to the tables of its server. Those of a deployed catalog are always fit for its store, so
-/// the want of memory where they aren't never comes.
+/// Attaches the lane at the place to the tables of its server.
 fn attach_one<S: Resource>(
     lane: &mut Lane<S>,
     at: u32,
     alloc: Global,
     cat: &Catalog,
 ) -> Result<(), StartFault>
+    requires take { spec.TakesTables S.told cat.now lane.old }
     ensures name { lane.new.name ≡ lane.old.name }
     ensures kind { lane.new.kind ≡ lane.old.kind }
     ensures attached { spec.AttachesOne S.told cat.now at result lane.old (S.told lane.new.res) }
@@ -51,9 +51,6 @@ fn attach_one<S: Resource>(
     let Ok(tables) = tables_for(alloc, cat, &lane.name) else {
         return Err(StartFault::Memory);
     };
-    if !are_fit(&lane.res.caps(), &tables) {
-        return Err(StartFault::Memory);
-    }
     match lane.res.attach(alloc, &tables) {
         Ok(()) => Ok(()),
         Err(fault) => Err(start_fault(alloc, &lane.name, tables.as_slice(), at, fault)),
@@ -67,6 +64,7 @@ pub fn attach_lanes<S: Resource>(
     cat: &Catalog,
 ) -> Result<(), StartFault>
     requires few { length lanes.old ≤ 4294967295 }
+    requires take { All (spec.TakesTables S.told cat.now) lanes.old }
     ensures stays { spec.StayStored S.told (spec.failed_start result) lanes.old lanes.new }
     ensures attached { spec.AttachesAll S.told cat.now result lanes.old lanes.new }
 {

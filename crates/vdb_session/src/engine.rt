@@ -1,6 +1,6 @@
 //! The engine: parts that are deployed and attached.
 
-ghost use Rattle.std.specs.Prelude.{◌≡◌, ◌<◌, length, slice_index_or};
+ghost use Rattle.std.specs.Prelude.{◌≡◌, ◌<◌, length, slice_index_or, IsTrue};
 
 use crate::answering::{Answer, answer_over};
 use crate::parts::{Opened, Parts, StartRefused};
@@ -37,12 +37,15 @@ impl<S: Resource> Model for Engine<S> {
 impl<S: Resource> Engine<S> {
     ghost use Rattle.resource.specs.declared.lane.Lane.{Lane};
     ghost use Rattle.vdb_session.specs.Answer as spec;
-    ghost use Rattle.vdb_session.specs.Lanes.{counts, LaneCounts};
+    ghost use Rattle.vdb_session.specs.Lanes.{are_apart, names_of, counts, LaneCounts};
     ghost use Rattle.vdb_session.specs.Starting.{Starts};
 
     /// Deploys the parts' DDL over the lanes, and attaches each lane to the tables of its server. A refusal hands the
     /// parts back with the first fault: of the text, of the deployment, and then of the lanes in turn.
+    ///
+    /// No two lanes may have one name, which `are_apart` tests, since a server is one connection.
     pub fn start(parts: Parts<S>, alloc: Global) -> Result<Engine<S>, StartRefused<S>>
+        requires apart { IsTrue (are_apart (names_of parts.lanes)) }
         ensures { Starts S.told parts result }
     {
         let mut parts = parts;

@@ -1,7 +1,7 @@
 //! The tables that a query reads, each fetched whole and once.
 
 ghost use Rattle.std.specs.Prelude.{◌≡◌, ◌≤◌, ◌<◌, length, true, IfOk};
-ghost use Rattle.catalog_laws.specs.Stacked.{IsStacked};
+ghost use Rattle.catalog_laws.specs.Over.{HasNoPatterns};
 ghost use Rattle.resource.specs.Asks.{Allows};
 ghost use Rattle.vdb_session.specs.Fetching as spec;
 ghost use Rattle.vdb_session.specs.Lanes.{AreAsked};
@@ -148,11 +148,12 @@ pub fn fetch_tables<S: Resource>(
 ) -> Result<Bags, FetchFault>
     requires few { length lanes.old ≤ 4294967295 }
     requires marks { length marks.now ≡ length cat.now.tables }
-    requires stacked { IsStacked cat.now }
+    requires patterns { HasNoPatterns cat.now }
     requires attached { spec.AreAttached S.told cat.now lanes.old }
     ensures asked { AreAsked S.told (spec.failed_lane result) lanes.old lanes.new }
     ensures bags { IfOk result (spec.AreFetched S.told cat.now lanes.old marks.now) }
 {
+    cat.is_well_formed();
     let mut bags = Seq::new(alloc);
     for (at, table) in cat.tables().as_slice().iter().enumerate() {
         match fetch_marked(lanes, alloc, cat, table, marks[at]) {

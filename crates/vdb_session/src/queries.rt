@@ -1,8 +1,8 @@
 //! From a text to its query, and from a query to its rows.
 
 ghost use Rattle.std.specs.Prelude.{◌≡◌, ◌≤◌, length, Err, IfOk, IsTrue, []};
-ghost use Rattle.catalog_laws.specs.Stacked.{IsStacked};
-ghost use Rattle.resolver.specs.Answers.{Resolves};
+ghost use Rattle.catalog_laws.specs.Over.{HasNoPatterns};
+ghost use Rattle.expr_resolver.specs.Answers.{Resolves};
 ghost use Rattle.sql_reader.specs.declared.tree.statement.Statement.TheVariants as statement;
 ghost use Rattle.vdb_model.specs.Arranged.{Arranged};
 ghost use Rattle.vdb_model.specs.Relations as rels;
@@ -170,7 +170,7 @@ fn fetch_and_run<S: Resource>(
     query: &Ranked,
 ) -> Result<Rows, FetchFault>
     requires few { length lanes.old ≤ 4294967295 }
-    requires stacked { IsStacked cat.now }
+    requires patterns { HasNoPatterns cat.now }
     requires attached { AreAttached S.told cat.now lanes.old }
     requires expanded { HasRowsOf cat.now query.now.rel rel.now }
     ensures asked { AreAsked S.told (failed_lane result) lanes.old lanes.new }
@@ -198,7 +198,7 @@ pub fn rows_of<S: Resource>(
     query: &Ranked,
 ) -> Result<Rows, FetchFault>
     requires few { length lanes.old ≤ 4294967295 }
-    requires stacked { IsStacked cat.now }
+    requires patterns { HasNoPatterns cat.now }
     requires named { IsTrue (names_first (length cat.now.views) query.now.rel) }
     requires attached { AreAttached S.told cat.now lanes.old }
     ensures asked { AreAsked S.told (failed_lane result) lanes.old lanes.new }

@@ -1,12 +1,14 @@
 //! Starting over lanes: from the bytes of a DDL to a catalog, and each lane attached.
 
-ghost use Rattle.std.specs.Prelude.{◌≡◌, map, IfOk};
+ghost use Rattle.std.specs.Prelude.{◌≡◌, map, IsTrue, IfOk};
 ghost use Rattle.vdb_session.specs.Attaching.{StayStored};
 ghost use Rattle.vdb_session.specs.Deploying as spec;
+ghost use Rattle.vdb_session.specs.Lanes.{are_apart, names_of};
 ghost use Rattle.vdb_session.specs.Starting.{connection};
 
 use crate::attaching::attach_lanes;
 use crate::parts::StartFault;
+use catalog_laws::deployed_is_over;
 use metadata::{ConnInfo, ConnInfos, DeployRefusal, deploy};
 use resource::{Lane, Lanes, Resource};
 use sql_reader::read::ReadFault;
@@ -62,11 +64,13 @@ fn deploy_text<S: Resource>(
 }
 
 /// Deploys the DDL over the lanes and attaches each of them. More lanes than 32 bits count are want of memory.
+#[tactic(auto, using(crate::proofs::FitLanes::no_patterns))]
 fn start_on<S: Resource>(
     lanes: &mut [Lane<S>],
     alloc: Global,
     ddl: &[u8],
 ) -> Result<Catalog, StartFault>
+    requires apart { IsTrue (are_apart (names_of lanes.old)) }
     ensures stays { StayStored S.told (spec.failed_deploy result) lanes.old lanes.new }
     ensures starts { spec.StartsOver S.told ddl.now lanes.old result lanes.new }
 {
@@ -77,6 +81,8 @@ fn start_on<S: Resource>(
         Ok(catalog) => catalog,
         Err(fault) => return Err(fault),
     };
+    catalog.is_well_formed();
+    deployed_is_over();
     match attach_lanes(lanes, alloc, &catalog) {
         Ok(()) => Ok(catalog),
         Err(fault) => Err(fault),
@@ -89,6 +95,7 @@ pub fn deploy_and_attach<S: Resource>(
     alloc: Global,
     ddl: &[u8],
 ) -> Result<Catalog, StartFault>
+    requires apart { IsTrue (are_apart (names_of lanes.old)) }
     ensures stays { StayStored S.told (spec.failed_deploy result) lanes.old lanes.new }
     ensures starts { spec.StartsOver S.told ddl.now lanes.old result lanes.new }
 {

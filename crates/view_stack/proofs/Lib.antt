@@ -5,7 +5,6 @@ pub mod UnreadByKinds
 pub mod TreeByKinds
 pub mod NoVariables
 pub mod Kept
-pub mod Stack
 pub mod ViewAt
 pub mod Falls
 pub mod Rules

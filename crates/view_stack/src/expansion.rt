@@ -4,7 +4,7 @@ ghost use Rattle.std.specs.Prelude.{◌≡◌, [], length, slice_index_or, IsTru
 ghost use Rattle.vdb_model.specs.declared.rel.Rel.TheVariants.{View};
 ghost use Rattle.vdb_model.specs.World.{view_rels};
 ghost use Rattle.vdb_model.specs.Sizes.{nodes_of, depth_of, is_within_size};
-ghost use Rattle.vdb_model.specs.Stacked.{names_first, has_no_view, are_stacked};
+ghost use Rattle.vdb_model.specs.Stacked.{names_first, has_no_view};
 ghost use Rattle.vdb_model.specs.Expanded.{expanded, expanded_over, expanded_after};
 ghost use Rattle.view_stack.specs.Parts.{expanded_each};
 ghost use Rattle.view_stack.specs.Expansion.{HasRowsOf, HasCause};
@@ -20,7 +20,6 @@ use vdb_model::{Catalog, Rel, Rels, ViewDef};
 /// is built; a view that is read twice is built twice, and one that isn't read is left alone. Where a count doesn't fit
 /// 64 bits, no memory could hold the relation.
 pub fn expand(alloc: Global, cat: &Catalog, rel: &Rel) -> Result<Rel, ExpandFault>
-    requires stacked { IsTrue (are_stacked cat.now.views) }
     requires named { IsTrue (names_first (length cat.now.views) rel.now) }
     ensures tree { IfOk result (λ made. made ≡ expanded cat.now rel.now) }
     ensures no_view { IfOk result (λ made. IsTrue (has_no_view made)) }
@@ -30,6 +29,7 @@ pub fn expand(alloc: Global, cat: &Catalog, rel: &Rel) -> Result<Rel, ExpandFaul
     ensures within { OnOk result (IsTrue (is_within_size (nodes_of cat.now.views rel.now) (depth_of cat.now.views rel.now))) }
     ensures cause { IfErr result (HasCause (nodes_of cat.now.views rel.now) (depth_of cat.now.views rel.now)) }
 {
+    cat.is_well_formed();
     let Some(size) = expanded_size(cat, rel) else {
         return Err(ExpandFault::Memory);
     };

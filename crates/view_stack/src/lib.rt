@@ -6,8 +6,9 @@
 //! order, and as many columns. `TooLarge` comes exactly where the expanded relation would have more than 4,096 nodes or
 //! be more than 512 deep, with both counts, before anything is built.
 //!
-//! `expand` asks that the catalog's views are stacked: each names only views before it, reads no variable, and its kept
-//! size is that of its relation. The resolver counts with `expanded_size`; the processor expands what it is to run.
+//! The views of a catalog are stacked: each names only views before it, reads no variable, and its kept size is that of its
+//! relation. The resolver counts with `expanded_size`; the session expands what it is to run. The tests over worked catalogs
+//! stand where catalogs are deployed, in `catalog_laws`.
 #![tactic(auto)]
 
 mod expansion;
@@ -17,6 +18,3 @@ mod sizes;
 pub use expansion::expand;
 pub use fault::ExpandFault;
 pub use sizes::{DEPTH_LIMIT, NODE_LIMIT, Size, expanded_size};
-
-#[cfg(test)]
-mod tests;

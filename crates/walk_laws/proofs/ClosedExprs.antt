@@ -6,15 +6,15 @@ use Rattle.sql_reader.specs.declared.tree.expr.Expr.{Expr}
 use Rattle.sql_reader.specs.declared.tree.expr.Link.{Link}
 use Rattle.sql_reader.specs.declared.tree.expr.Operator.{Operator}
 use Rattle.sql_reader.specs.declared.tree.expr.Operator.TheVariants.{Or, And, Concat, Add, Subtract, Multiply}
-use Rattle.resolver.specs.declared.known.Known.{Known}
-use Rattle.resolver.specs.declared.scope.Names.{Names}
-use Rattle.resolver.specs.declared.scope.Over.{Over}
-use Rattle.resolver.specs.declared.scope.Over.TheVariants.{Rows}
-use Rattle.resolver.specs.Walking.{next, given, one, all}
-use Rattle.resolver.specs.Scope.{column_seen, first_place}
-use Rattle.resolver.specs.Operators as op
-use Rattle.resolver.specs.Exprs.{Part, ArmPart, LinkPart, walk, walks, operands, all_operands, listed, computed, chain_by, chain, items, arms_in, last_in, parts_of, links_of, arms_of, part_of}
-use Rattle.resolver.proofs.ByKinds.{walk-Literal, walk-Column, walk-Parens, walk-Negate, walk-Chain, walk-Not, walk-Compare, walk-IsNull, walk-In, walk-Like, walk-Between, walk-CountAll, walk-Aggregate, walk-Coalesce, walk-Case}
+use Rattle.expr_resolver.specs.declared.known.Known.{Known}
+use Rattle.expr_resolver.specs.declared.scope.Names.{Names}
+use Rattle.expr_resolver.specs.declared.scope.Over.{Over}
+use Rattle.expr_resolver.specs.declared.scope.Over.TheVariants.{Rows}
+use Rattle.expr_resolver.specs.Walking.{next, given, one, all}
+use Rattle.expr_resolver.specs.Scope.{column_seen, first_place}
+use Rattle.expr_resolver.specs.Operators as op
+use Rattle.expr_resolver.specs.Exprs.{Part, ArmPart, LinkPart, walk, walks, operands, all_operands, listed, computed, chain_by, chain, items, arms_in, last_in, parts_of, links_of, arms_of, part_of}
+use Rattle.expr_resolver.proofs.ByKinds.{walk-Literal, walk-Column, walk-Parens, walk-Negate, walk-Chain, walk-Not, walk-Compare, walk-IsNull, walk-In, walk-Like, walk-Between, walk-CountAll, walk-Aggregate, walk-Coalesce, walk-Case}
 use Rattle.walk_laws.proofs.ClosedKnown.{Shut, ShutArm, literal_shut, column_shut, parens_shut, needs_shut, condition_shut, negative_shut, arithmetic_shut, chained_shut, not_shut, compared_shut, null_shut, item_shut, in_shut, like_shut, between_shut, first_shut, arm_shut, case_shut, nothing_shut, count_all_shut, aggregate_shut}
 use Rattle.walk_laws.proofs.Gives.{gives, gives_any, gives_next}
 use Rattle.walk_laws.proofs.WalkClosed.{Walks, walks_same, walks_given, walks_in_turn, walks_one, walks_two, walks_three, AllWalk, walks_all}

@@ -15,17 +15,17 @@ use Rattle.sql_reader.specs.declared.tree.name.Name.{Name}
 use Rattle.sql_reader.specs.declared.tree.name.RelationName.{RelationName}
 use Rattle.sql_reader.specs.declared.tree.query.JoinKind as tree
 use Rattle.sql_reader.specs.declared.tree.query.JoinKind.TheVariants as kind
-use Rattle.resolver.specs.declared.scope.Entry.{Entry}
-use Rattle.resolver.specs.declared.scope.Names.{Names}
-use Rattle.resolver.specs.declared.scope.Over.TheVariants.{Rows}
+use Rattle.expr_resolver.specs.declared.scope.Entry.{Entry}
+use Rattle.expr_resolver.specs.declared.scope.Names.{Names}
+use Rattle.expr_resolver.specs.declared.scope.Over.TheVariants.{Rows}
 use Rattle.resolver.specs.declared.selected.Column.{Column}
 use Rattle.resolver.specs.declared.selected.Source.{Source}
-use Rattle.resolver.specs.Exprs.{walk}
+use Rattle.expr_resolver.specs.Exprs.{walk}
 use Rattle.resolver.specs.From.{TablePart, alone, condition_over, visible, is_seen, enter, table_entry, entry_text, table_source, settled_columns, derived_source, joined, crossed, joined_on, joined_by, joined_source, source_or_one, beside, tables_from, from}
 use Rattle.walk_laws.specs.Closed.{IsClosedOver}
-use Rattle.resolver.specs.Operators.{condition}
+use Rattle.expr_resolver.specs.Operators.{condition}
 use Rattle.resolver.specs.Relations.{rel_of}
-use Rattle.resolver.specs.Walking.{Walk, one}
+use Rattle.expr_resolver.specs.Walking.{Walk, one}
 use Rattle.walk_laws.proofs.ClosedExprs.{expr_walks}
 use Rattle.walk_laws.proofs.ClosedKnown.{Shut, condition_shut}
 use Rattle.walk_laws.proofs.ClosedRels.{one_closed, join_closed, relation_there}

@@ -10,16 +10,16 @@ use Rattle.sql_reader.specs.declared.tree.expr.Expr.{Expr}
 use Rattle.sql_reader.specs.declared.tree.name.Name.{Name}
 use Rattle.sql_reader.specs.declared.tree.query.SelectItem.{SelectItem}
 use Rattle.sql_reader.specs.declared.tree.query.SelectItem.TheVariants as item
-use Rattle.resolver.specs.declared.known.Known.{Known}
-use Rattle.resolver.specs.declared.scope.Names.{Names}
-use Rattle.resolver.specs.declared.scope.Over.{Over}
+use Rattle.expr_resolver.specs.declared.known.Known.{Known}
+use Rattle.expr_resolver.specs.declared.scope.Names.{Names}
+use Rattle.expr_resolver.specs.declared.scope.Over.{Over}
 use Rattle.resolver.specs.declared.selected.Chosen.{Chosen}
-use Rattle.resolver.specs.Exprs.{walk}
+use Rattle.expr_resolver.specs.Exprs.{walk}
 use Rattle.resolver.specs.Items.{column_chosen, columns_chosen, all_columns, columns_named, columns_of_entry, item_walk, items_walk, exprs_of}
-use Rattle.resolver.specs.Operators.{condition}
-use Rattle.resolver.specs.Scope.{only, column_over}
+use Rattle.expr_resolver.specs.Operators.{condition}
+use Rattle.expr_resolver.specs.Scope.{only, column_over}
 use Rattle.resolver.specs.Selects.{having_walk}
-use Rattle.resolver.specs.Walking.{next, one}
+use Rattle.expr_resolver.specs.Walking.{next, one}
 use Rattle.walk_laws.proofs.ClosedExprs.{expr_walks}
 use Rattle.walk_laws.proofs.ClosedKnown.{Shut, condition_shut}
 use Rattle.walk_laws.proofs.Gives.{Gives, gives, gives_any, gives_next, all_append}

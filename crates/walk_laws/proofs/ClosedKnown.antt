@@ -23,12 +23,12 @@ use Rattle.sql_reader.specs.declared.tree.expr.Constant.TheVariants as constant
 use Rattle.sql_reader.specs.declared.tree.expr.Literal.{Literal}
 use Rattle.sql_reader.specs.declared.tree.expr.Operator.{Operator}
 use Rattle.sql_reader.specs.declared.tree.expr.Operator.TheVariants as operator
-use Rattle.resolver.specs.declared.known.Known.{Known}
-use Rattle.resolver.specs.declared.known.KnownArm.{KnownArm}
-use Rattle.resolver.specs.declared.scope.Over.{Over}
-use Rattle.resolver.specs.declared.scope.Over.TheVariants.{Rows, Groups}
-use Rattle.resolver.specs.Operators as op
-use Rattle.resolver.specs.Types.{is_a, is_held, common_of, as_number, widened, computed_type, aggregate_type}
+use Rattle.expr_resolver.specs.declared.known.Known.{Known}
+use Rattle.expr_resolver.specs.declared.known.KnownArm.{KnownArm}
+use Rattle.expr_resolver.specs.declared.scope.Over.{Over}
+use Rattle.expr_resolver.specs.declared.scope.Over.TheVariants.{Rows, Groups}
+use Rattle.expr_resolver.specs.Operators as op
+use Rattle.expr_resolver.specs.Types.{is_a, is_held, common_of, as_number, widened, computed_type, aggregate_type}
 use Rattle.walk_laws.proofs.Gives.{Gives, gives, refuses, gives_if_else, gives_unless, gives_next}
 use Rattle.walk_laws.proofs.WalkClosed.{AndClosed, Walks}
 

@@ -10,10 +10,10 @@ use Rattle.vdb_model.specs.Defined.{Defined}
 use Rattle.sql_reader.specs.declared.tree.expr.Expr.{Expr}
 use Rattle.sql_reader.specs.declared.tree.name.ColumnName.{ColumnName}
 use Rattle.sql_reader.specs.declared.tree.query.SelectItem.{SelectItem}
-use Rattle.resolver.specs.declared.known.Known.{Known}
-use Rattle.resolver.specs.declared.scope.Names.{Names}
-use Rattle.resolver.specs.declared.scope.Over.{Over}
-use Rattle.resolver.specs.declared.scope.Over.TheVariants.{Rows, Groups}
+use Rattle.expr_resolver.specs.declared.known.Known.{Known}
+use Rattle.expr_resolver.specs.declared.scope.Names.{Names}
+use Rattle.expr_resolver.specs.declared.scope.Over.{Over}
+use Rattle.expr_resolver.specs.declared.scope.Over.TheVariants.{Rows, Groups}
 use Rattle.resolver.specs.declared.selected.Chosen.{Chosen}
 use Rattle.resolver.specs.declared.selected.Selected.{Selected}
 use Rattle.resolver.specs.declared.selected.Source.{Source}
@@ -21,7 +21,7 @@ use Rattle.resolver.specs.From.{TablePart}
 use Rattle.resolver.specs.Items.{exprs_of}
 use Rattle.walk_laws.specs.Closed.{IsClosedOver}
 use Rattle.resolver.specs.Selects.{filtered, keys_of, level, is_grouped, having_rel, grouped_rel, distinct_rel, selected, level_walk, grouped_walk, select_of, union_of, merge, parts_by, united_as, united}
-use Rattle.resolver.specs.Walking.{next}
+use Rattle.expr_resolver.specs.Walking.{next}
 use Rattle.walk_laws.proofs.ClosedFrom.{condition_closed, SourceClosed, TableClosed, from_closed}
 use Rattle.walk_laws.proofs.ClosedItems.{ChosenShut, chosen_shut, HavingShut, items_shut, having_shut}
 use Rattle.walk_laws.proofs.ClosedRels.{where_closed, select_closed, group_closed, distinct_closed, union_closed}

@@ -20,14 +20,14 @@ use Rattle.sql_reader.specs.declared.tree.statement.InsertSource.TheVariants as 
 use Rattle.sql_reader.specs.declared.tree.statement.Statement.{Statement}
 use Rattle.sql_reader.specs.declared.tree.statement.Statement.TheVariants as statement
 use Rattle.sql_reader.specs.declared.tree.statement.Update.{Update}
-use Rattle.resolver.specs.declared.known.Known.{Known}
-use Rattle.resolver.specs.declared.scope.Names.{Names}
-use Rattle.resolver.specs.declared.scope.Over.TheVariants.{Rows}
+use Rattle.expr_resolver.specs.declared.known.Known.{Known}
+use Rattle.expr_resolver.specs.declared.scope.Names.{Names}
+use Rattle.expr_resolver.specs.declared.scope.Over.TheVariants.{Rows}
 use Rattle.resolver.specs.declared.targets.Given.{Given}
 use Rattle.resolver.specs.Assigning.{listed_columns, of_known, of_columns, unfit_at, unless_unfit, assigned}
-use Rattle.resolver.specs.Exprs.{walk}
+use Rattle.expr_resolver.specs.Exprs.{walk}
 use Rattle.walk_laws.specs.Closed.{IsClosedOver, QueriesAreClosed, StatementsAreClosed}
-use Rattle.resolver.specs.Operators.{exprs_of}
+use Rattle.expr_resolver.specs.Operators.{exprs_of}
 use Rattle.resolver.specs.Queries.{keys_of, count_of, ranked, query_walk}
 use Rattle.resolver.specs.Relations.{relation_of, procedure_of}
 use Rattle.resolver.specs.Selects.{union_of}

@@ -3,8 +3,8 @@ use Rattle.std.proofs.Common.{◌≡◌, ℕ, Bool, true, false, if◌then◌els
 use Rattle.std.specs.List.{AllByRecursion}
 use Rattle.vdb_model.specs.declared.reply.Refusal.{Refusal}
 use Rattle.vdb_model.specs.declared.reply.Refusal.TheVariants.{Unknown, Ambiguous}
-use Rattle.resolver.specs.Scope.{only}
-use Rattle.resolver.specs.Walking.{next}
+use Rattle.expr_resolver.specs.Scope.{only}
+use Rattle.expr_resolver.specs.Walking.{next}
 
 -- it holds of the result, where there is one
 pub record Gives {A : Type 0} (r : Result A Refusal) (P : A → Type 0) : Type 0 where

@@ -6,7 +6,7 @@ use Rattle.vdb_base.specs.declared.value.Ty.{Ty}
 use Rattle.vdb_base.specs.declared.value.Ty.TheVariants.{Boolean, Integer, Long, BigInteger, Str as Text}
 use Rattle.vdb_model.specs.Typed.{types, same_type, goes_into, within}
 use Rattle.vdb_model.specs.Typed as model
-use Rattle.resolver.specs.Types.{is_a, common, with_others, common_of, as_number, settled, widened, computed_type, summed}
+use Rattle.expr_resolver.specs.Types.{is_a, common, with_others, common_of, as_number, settled, widened, computed_type, summed}
 
 -- an expression of these types has the type that is known of it; a NULL alone has every type
 abbrev pub Has : (Ty → Bool) → Option Ty → Type 0

@@ -13,12 +13,12 @@ use Rattle.vdb_model.specs.Columns.{key_types}
 use Rattle.vdb_model.specs.Defs.{same_name}
 use Rattle.vdb_model.specs.WellFormed.{variable_types}
 use Rattle.sql_reader.specs.declared.tree.name.ColumnName.{ColumnName}
-use Rattle.resolver.specs.declared.scope.Entry.{Entry}
-use Rattle.resolver.specs.declared.scope.Names.{Names}
-use Rattle.resolver.specs.declared.scope.Over.{Over}
-use Rattle.resolver.specs.declared.scope.Over.TheVariants.{Rows, Groups}
+use Rattle.expr_resolver.specs.declared.scope.Entry.{Entry}
+use Rattle.expr_resolver.specs.declared.scope.Names.{Names}
+use Rattle.expr_resolver.specs.declared.scope.Over.{Over}
+use Rattle.expr_resolver.specs.declared.scope.Over.TheVariants.{Rows, Groups}
 use Rattle.resolver.specs.Items.{all_columns}
-use Rattle.resolver.specs.Scope.{written, last_name, may_be_of, named, found_in, found, column_of, key_at, as_key, column_over, column_seen, first_place}
+use Rattle.expr_resolver.specs.Scope.{written, last_name, may_be_of, named, found_in, found, column_of, key_at, as_key, column_over, column_seen, first_place}
 use Rattle.walk_laws.proofs.Gives.{Gives, gives, refuses, gives_next, gives_only, all_append, all_become}
 use Rattle.walk_laws.proofs.WalkTyped.{Stays, Later, later_still, later_behind}
 

@@ -13,11 +13,11 @@ use Rattle.vdb_model.specs.Typed.{has_type, is_some_type}
 use Rattle.vdb_model.proofs.Ranges.{and_left, and_right}
 use Rattle.sql_reader.specs.declared.tree.expr.Aggregate.{Aggregate}
 use Rattle.sql_reader.specs.declared.tree.expr.Aggregate.TheVariants as aggregate
-use Rattle.resolver.specs.declared.known.Known.{Known}
-use Rattle.resolver.specs.declared.scope.Over.{Over}
-use Rattle.resolver.specs.declared.scope.Over.TheVariants.{Rows, Groups}
-use Rattle.resolver.specs.Operators as op
-use Rattle.resolver.specs.Types.{as_number, settled, aggregate_type}
+use Rattle.expr_resolver.specs.declared.known.Known.{Known}
+use Rattle.expr_resolver.specs.declared.scope.Over.{Over}
+use Rattle.expr_resolver.specs.declared.scope.Over.TheVariants.{Rows, Groups}
+use Rattle.expr_resolver.specs.Operators as op
+use Rattle.expr_resolver.specs.Types.{as_number, settled, aggregate_type}
 use Rattle.walk_laws.proofs.Gives.{Gives, gives, refuses}
 use Rattle.walk_laws.proofs.KnownTypes.{same_self, has_settled, has_some, within_of, goes_widening, summed_of}
 use Rattle.walk_laws.proofs.Scope.{IsAt, get_middle, get_front, Sees, Seen}

@@ -11,16 +11,16 @@ use Rattle.sql_reader.specs.declared.tree.expr.Expr.TheVariants as tree
 use Rattle.sql_reader.specs.declared.tree.expr.Link.{Link}
 use Rattle.sql_reader.specs.declared.tree.expr.Operator.{Operator}
 use Rattle.sql_reader.specs.declared.tree.expr.Operator.TheVariants.{Or, And, Concat, Add, Subtract, Multiply}
-use Rattle.resolver.specs.declared.known.Known.{Known}
-use Rattle.resolver.specs.declared.known.KnownArm.{KnownArm}
-use Rattle.resolver.specs.declared.scope.Names.{Names}
-use Rattle.resolver.specs.declared.scope.Over.{Over}
-use Rattle.resolver.specs.declared.scope.Over.TheVariants.{Rows}
-use Rattle.resolver.specs.Exprs.{Part, ArmPart, LinkPart, walk, walks, operands, all_operands, listed, computed, chain_by, chain, items, arms_in, last_in, parts_of, links_of, arms_of, part_of}
-use Rattle.resolver.specs.Operators as op
-use Rattle.resolver.specs.Scope.{column_seen, first_place}
-use Rattle.resolver.specs.Walking.{next, given, one, all}
-use Rattle.resolver.proofs.ByKinds.{walk-Literal, walk-Column, walk-Parens, walk-Negate, walk-Chain, walk-Not, walk-Compare, walk-IsNull, walk-In, walk-Like, walk-Between, walk-CountAll, walk-Aggregate, walk-Coalesce, walk-Case}
+use Rattle.expr_resolver.specs.declared.known.Known.{Known}
+use Rattle.expr_resolver.specs.declared.known.KnownArm.{KnownArm}
+use Rattle.expr_resolver.specs.declared.scope.Names.{Names}
+use Rattle.expr_resolver.specs.declared.scope.Over.{Over}
+use Rattle.expr_resolver.specs.declared.scope.Over.TheVariants.{Rows}
+use Rattle.expr_resolver.specs.Exprs.{Part, ArmPart, LinkPart, walk, walks, operands, all_operands, listed, computed, chain_by, chain, items, arms_in, last_in, parts_of, links_of, arms_of, part_of}
+use Rattle.expr_resolver.specs.Operators as op
+use Rattle.expr_resolver.specs.Scope.{column_seen, first_place}
+use Rattle.expr_resolver.specs.Walking.{next, given, one, all}
+use Rattle.expr_resolver.proofs.ByKinds.{walk-Literal, walk-Column, walk-Parens, walk-Negate, walk-Chain, walk-Not, walk-Compare, walk-IsNull, walk-In, walk-Like, walk-Between, walk-CountAll, walk-Aggregate, walk-Coalesce, walk-Case}
 use Rattle.walk_laws.proofs.Gives.{Gives, gives, gives_next}
 use Rattle.walk_laws.proofs.Scope.{entry_types, Sees, Seen, stays_seen, gives_seen, each_seen, name_seen}
 use Rattle.walk_laws.proofs.TreeByKinds.{OfArm, OfLink, OfLast, by_kinds}

@@ -14,16 +14,16 @@ use Rattle.sql_reader.specs.declared.tree.expr.Expr.{Expr}
 use Rattle.sql_reader.specs.declared.tree.name.Name.{Name}
 use Rattle.sql_reader.specs.declared.tree.query.SelectItem.{SelectItem}
 use Rattle.sql_reader.specs.declared.tree.query.SelectItem.TheVariants as item
-use Rattle.resolver.specs.declared.known.Known.{Known}
-use Rattle.resolver.specs.declared.scope.Entry.{Entry}
-use Rattle.resolver.specs.declared.scope.Names.{Names}
-use Rattle.resolver.specs.declared.scope.Over.{Over}
+use Rattle.expr_resolver.specs.declared.known.Known.{Known}
+use Rattle.expr_resolver.specs.declared.scope.Entry.{Entry}
+use Rattle.expr_resolver.specs.declared.scope.Names.{Names}
+use Rattle.expr_resolver.specs.declared.scope.Over.{Over}
 use Rattle.resolver.specs.declared.selected.Chosen.{Chosen}
-use Rattle.resolver.specs.Exprs.{walk}
+use Rattle.expr_resolver.specs.Exprs.{walk}
 use Rattle.resolver.specs.Items.{column_chosen, columns_chosen, all_columns, columns_named, columns_of_entry, item_walk, items_walk, exprs_of, columns_of}
-use Rattle.resolver.specs.Scope.{column_over}
+use Rattle.expr_resolver.specs.Scope.{column_over}
 use Rattle.resolver.specs.Selects.{having_walk}
-use Rattle.resolver.specs.Walking.{next}
+use Rattle.expr_resolver.specs.Walking.{next}
 use Rattle.walk_laws.proofs.Gives.{Gives, gives, gives_next, gives_only, all_append}
 use Rattle.walk_laws.proofs.KnownTypes.{Has, has_at}
 use Rattle.walk_laws.proofs.Scope.{IsAt, Behind, behind_none, behind_first, behind_rest, behind_next, behind_here, entry_types, types_append, types_length, Seen, stays_seen, column_over_seen}

@@ -20,10 +20,10 @@ use Rattle.sql_reader.specs.declared.tree.expr.Constant.TheVariants as constant
 use Rattle.sql_reader.specs.declared.tree.expr.Literal.{Literal}
 use Rattle.sql_reader.specs.declared.tree.expr.Operator.{Operator}
 use Rattle.sql_reader.specs.declared.tree.expr.Operator.TheVariants as operator
-use Rattle.resolver.specs.declared.known.Known.{Known}
-use Rattle.resolver.specs.declared.known.KnownArm.{KnownArm}
-use Rattle.resolver.specs.Operators as op
-use Rattle.resolver.specs.Types.{type_of, is_held, is_a, common_of, as_number, settled, widened, computed_type}
+use Rattle.expr_resolver.specs.declared.known.Known.{Known}
+use Rattle.expr_resolver.specs.declared.known.KnownArm.{KnownArm}
+use Rattle.expr_resolver.specs.Operators as op
+use Rattle.expr_resolver.specs.Types.{type_of, is_held, is_a, common_of, as_number, settled, widened, computed_type}
 use Rattle.walk_laws.proofs.Gives.{Gives, gives, refuses, gives_unless, gives_where, gives_next}
 use Rattle.walk_laws.proofs.KnownTypes.{Has, AllGo, GoesOn, some_type, has_some, has_asked, within_self, within_of, goes_settled, goes_number, goes_as_number, common_of_goes, widened_of, computed_of}
 use Rattle.walk_laws.proofs.TypesByKinds.{arm_type, types-Const, types-Not, types-And, types-Or, types-Cmp, types-IsNull, types-In, types-Like, types-Arith, types-Neg, types-Concat, types-Case, types-Coalesce}

@@ -17,18 +17,18 @@ use Rattle.vdb_model.proofs.Ranges.{and_left, and_right}
 use Rattle.sql_reader.specs.declared.tree.expr.Expr.{Expr}
 use Rattle.sql_reader.specs.declared.tree.name.ColumnName.{ColumnName}
 use Rattle.sql_reader.specs.declared.tree.query.SelectItem.{SelectItem}
-use Rattle.resolver.specs.declared.known.Known.{Known}
-use Rattle.resolver.specs.declared.scope.Entry.{Entry}
-use Rattle.resolver.specs.declared.scope.Names.{Names}
-use Rattle.resolver.specs.declared.scope.Over.{Over}
-use Rattle.resolver.specs.declared.scope.Over.TheVariants.{Rows, Groups}
+use Rattle.expr_resolver.specs.declared.known.Known.{Known}
+use Rattle.expr_resolver.specs.declared.scope.Entry.{Entry}
+use Rattle.expr_resolver.specs.declared.scope.Names.{Names}
+use Rattle.expr_resolver.specs.declared.scope.Over.{Over}
+use Rattle.expr_resolver.specs.declared.scope.Over.TheVariants.{Rows, Groups}
 use Rattle.resolver.specs.declared.selected.Chosen.{Chosen}
 use Rattle.resolver.specs.declared.selected.Selected.{Selected}
 use Rattle.resolver.specs.declared.selected.Source.{Source}
 use Rattle.resolver.specs.From.{TablePart}
 use Rattle.resolver.specs.Items.{exprs_of, columns_of}
 use Rattle.resolver.specs.Selects.{filtered, keys_of, level, is_grouped, having_rel, grouped_rel, distinct_rel, selected, level_walk, grouped_walk, select_of, merge, parts_by, united_as, united}
-use Rattle.resolver.specs.Walking.{next}
+use Rattle.expr_resolver.specs.Walking.{next}
 use Rattle.walk_laws.proofs.Gives.{Gives, gives, gives_become, gives_next, gives_where, all_become}
 use Rattle.walk_laws.proofs.Scope.{entry_types, column_found, place_below, Sees, stays_seen}
 use Rattle.walk_laws.proofs.TypedFrom.{SourceTyped, TableTyped, condition_typed, from_typed}

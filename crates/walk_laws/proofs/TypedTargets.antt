@@ -15,14 +15,14 @@ use Rattle.vdb_model.specs.Typed.{has_type}
 use Rattle.vdb_model.specs.WellFormed.{variable_types}
 use Rattle.vdb_model.proofs.Ranges.{and_left, and_right}
 use Rattle.sql_reader.specs.declared.tree.name.Name.{Name}
-use Rattle.resolver.specs.declared.known.Known.{Known}
+use Rattle.expr_resolver.specs.declared.known.Known.{Known}
 use Rattle.resolver.specs.declared.selected.Column.{Column}
 use Rattle.resolver.specs.declared.targets.Given.{Given}
 use Rattle.resolver.specs.declared.targets.Targets.{Targets}
 use Rattle.resolver.specs.Assigning.{target_column, with_column, target_columns, no_columns, every_column, listed_columns, of_known, of_columns, first_unfit, unfit_at, unless_unfit, assigned}
-use Rattle.resolver.specs.Operators.{exprs_of}
-use Rattle.resolver.specs.Scope.{named}
-use Rattle.resolver.specs.Types.{is_assignable}
+use Rattle.expr_resolver.specs.Operators.{exprs_of}
+use Rattle.expr_resolver.specs.Scope.{named}
+use Rattle.expr_resolver.specs.Types.{is_assignable}
 use Rattle.walk_laws.specs.TypedStatements.{can_take, all_take, takes_value, all_take_values, types_at}
 use Rattle.walk_laws.proofs.Gives.{Gives, gives, refuses, gives_unless, gives_next, gives_only}
 use Rattle.walk_laws.proofs.KnownTypes.{Has, Agrees, goes_self, has_at, some_type}

@@ -12,7 +12,7 @@ use Rattle.vdb_model.specs.Typed.{goes_into}
 use Rattle.vdb_model.proofs.Ranges.{and_left, and_right}
 use Rattle.resolver.specs.declared.selected.Column.{Column}
 use Rattle.resolver.specs.Selects.{union_of, merged, merge, parts_by}
-use Rattle.resolver.specs.Types.{common}
+use Rattle.expr_resolver.specs.Types.{common}
 use Rattle.walk_laws.proofs.Gives.{Gives, gives, refuses, gives_next, all_append, all_become}
 use Rattle.walk_laws.proofs.KnownTypes.{Agrees, GoesOn, goes_on, goes_self, common_goes}
 use Rattle.walk_laws.proofs.TypedFrom.{AllAgree, HasColumns}

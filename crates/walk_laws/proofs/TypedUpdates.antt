@@ -27,18 +27,18 @@ use Rattle.sql_reader.specs.declared.tree.statement.InsertSource.TheVariants as 
 use Rattle.sql_reader.specs.declared.tree.statement.Statement.{Statement}
 use Rattle.sql_reader.specs.declared.tree.statement.Statement.TheVariants as statement
 use Rattle.sql_reader.specs.declared.tree.statement.Update.{Update}
-use Rattle.resolver.specs.declared.known.Known.{Known}
+use Rattle.expr_resolver.specs.declared.known.Known.{Known}
 use Rattle.resolver.specs.declared.relation.Relation.{Relation}
-use Rattle.resolver.specs.declared.scope.Names.{Names}
-use Rattle.resolver.specs.declared.scope.Over.TheVariants.{Rows}
+use Rattle.expr_resolver.specs.declared.scope.Names.{Names}
+use Rattle.expr_resolver.specs.declared.scope.Over.TheVariants.{Rows}
 use Rattle.resolver.specs.declared.targets.Sets.{Sets}
 use Rattle.resolver.specs.Assigning.{of_known, of_columns, assigned_value}
-use Rattle.resolver.specs.Exprs.{walk}
-use Rattle.resolver.specs.Operators.{exprs_of}
+use Rattle.expr_resolver.specs.Exprs.{walk}
+use Rattle.expr_resolver.specs.Operators.{exprs_of}
 use Rattle.resolver.specs.Relations.{is_meant, rel_of, types_of, procedures_named, procedure_of, written_relation}
 use Rattle.resolver.specs.Selects.{filtered, union_of}
 use Rattle.resolver.specs.Statements.{walk_alone, over_rows, walks_alone, first_or, values_rows, insert_rows, insert_walk, target_source, assignment, with_set, assignments, no_sets, update_walk, delete_walk, exec_walk, statement_walk, sized_rel, within_size, resolved}
-use Rattle.resolver.specs.Types.{is_assignable}
+use Rattle.expr_resolver.specs.Types.{is_assignable}
 use Rattle.walk_laws.specs.TypedStatements.{all_take, takes_value, all_take_values, types_at, parameter_types, IsTypedStatement, StatementsAreTyped}
 use Rattle.walk_laws.proofs.Gives.{Gives, gives, gives_become, gives_next, gives_where, gives_only, all_append}
 use Rattle.walk_laws.proofs.Scope.{IsAt, Behind, behind_none, entry_types, get_middle, place_below}

@@ -4,7 +4,7 @@ use Rattle.std.specs.List.{AllByRecursion}
 use Rattle.vdb_model.specs.declared.rel.Agg.{Agg}
 use Rattle.vdb_model.specs.declared.reply.Refusal.{Refusal}
 use Rattle.vdb_model.specs.Closed.{are_closed_aggs}
-use Rattle.resolver.specs.Walking.{Walk, given, from_there, in_turn, one, two, three, all}
+use Rattle.expr_resolver.specs.Walking.{Walk, given, from_there, in_turn, one, two, three, all}
 use Rattle.walk_laws.proofs.Gives.{Gives, gives, refuses, all_append}
 
 -- it holds of what the part gives, and its aggregates read no variable where those before it don't

@@ -5,7 +5,7 @@ use Rattle.vdb_base.specs.declared.value.Ty.{Ty}
 use Rattle.vdb_model.specs.declared.rel.Agg.{Agg}
 use Rattle.vdb_model.specs.declared.reply.Refusal.{Refusal}
 use Rattle.vdb_model.specs.Columns.{aggs_have}
-use Rattle.resolver.specs.Walking.{Walk, given, from_there, in_turn, one, two, three, all}
+use Rattle.expr_resolver.specs.Walking.{Walk, given, from_there, in_turn, one, two, three, all}
 use Rattle.walk_laws.proofs.Gives.{Gives, gives, refuses, all_append, all_become}
 
 -- a list that begins with another

@@ -1,8 +1,12 @@
 use Rattle.std.proofs.Common.{map, Global}
 use Rattle.std.specs.String.{string_bytes}
+use Rattle.vdb.proofs.ApartLanes.{setup_apart}
 use Rattle.vdb.proofs.Causes.{causes-of, complete-of}
 use Rattle.vdb.proofs.ProgramSays.{headline-of, headline-unread}
 use Rattle.vdb.proofs.program.program.Goals as goal
+
+pub run_setup-ending-requires-clause-apart : goal.run_setup-ending-requires-clause-apart
+run_setup-ending-requires-clause-apart g c = λ κs b. setup_apart (map (string_bytes {Z = Global}) c.args.words.now.items) c.in-Ok.setup c.in-Ok.ensures.setup
 
 pub returns : goal.returns
 returns g c =

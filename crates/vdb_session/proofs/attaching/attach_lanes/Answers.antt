@@ -1,6 +1,11 @@
 use Rattle.std.proofs.Common.{arith}
 use Rattle.vdb_session.proofs.AttachedLanes.{attached_more, attached_all, attached_refused}
+use Rattle.vdb_session.proofs.FitLanes.{take_here}
 use Rattle.vdb_session.proofs.attaching.attach_lanes.Goals as goal
+
+pub attach_one-requires-clause-take : goal.attach_one-requires-clause-take
+attach_one-requires-clause-take g c = λ κs b.
+    take_here g.S.Resource.told c.args.cat.now c.loop-at.at c.args.lanes.now c.loop-at.lanes c.index-lanes-at.result (omega (arith, c.loop-at-test.true, c.loop-at.auto.lanes)) c.loop-at.invariant c.requires.take
 
 pub loop-at-preserved : goal.loop-at-preserved
 loop-at-preserved g c =

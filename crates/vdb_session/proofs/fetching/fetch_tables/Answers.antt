@@ -5,7 +5,7 @@ use Rattle.vdb_session.proofs.fetching.fetch_tables.Goals as goal
 
 pub fetch_marked-requires-clause-allowed : goal.fetch_marked-requires-clause-allowed
 fetch_marked-requires-clause-allowed g c = λ κs b.
-    may_ask_now g.S.Resource.told c.args.cat.now c.args.lanes.now c.loop-at.lanes c.as_slice-table-items.result.now c.loop-at.at c.table-item.result c.requires.stacked c.requires.attached c.loop-at.invariant.asked
+    may_ask_now g.S.Resource.told c.args.cat.now c.args.lanes.now c.loop-at.lanes c.as_slice-table-items.result.now c.loop-at.at c.table-item.result c.is_well_formed.ensures c.requires.patterns c.requires.attached c.loop-at.invariant.asked
     (c.as_slice-table-items.ensures ∙ c.tables.ensures) c.table-item.is c.loop-at-test.true
 
 pub loop-at-preserved : goal.loop-at-preserved

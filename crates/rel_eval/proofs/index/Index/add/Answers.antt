@@ -1,4 +1,4 @@
-use Rattle.std.proofs.Common.{◌≡◌, true, ap, refl, sym, ◌∙◌, ◌++◌, ◌∷◌, [], Some, None, is_some, cond}
+use Rattle.std.proofs.Common.{◌≡◌, ap, refl, sym, ◌∙◌, ◌++◌, ◌∷◌, [], Some, None, is_some, cond}
 use Rattle.std.specs.Map.{lookup}
 use Rattle.std.specs.Option.{option_copied_mut}
 use Rattle.indexmap.proofs.CallerLemmas.{insert_entry-new}

@@ -1,0 +1,3 @@
+pub mod ByKinds
+pub mod OneMore
+pub mod Rules

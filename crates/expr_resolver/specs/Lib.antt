@@ -1,0 +1,6 @@
+pub mod Walking
+pub mod Types
+pub mod Scope
+pub mod Operators
+pub mod Exprs
+pub mod Answers

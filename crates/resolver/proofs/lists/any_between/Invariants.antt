@@ -1,6 +1,0 @@
-use Rattle.std.proofs.Common.{◌≡◌, ◌++◌, [], ◌∷◌, drop, Some, None}
-use Rattle.resolver.specs.Operators.{any_between}
-use Rattle.resolver.proofs.lists.any_between.Given as goal
-
-abbrev pub invariant-loop-k : goal.invariant-loop-k
-invariant-loop-k l = any_between (drop l.k-index l.ks) ≡ any_between l.ks

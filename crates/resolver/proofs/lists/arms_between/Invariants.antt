@@ -1,6 +1,0 @@
-use Rattle.std.proofs.Common.{◌≡◌, ◌++◌, [], ◌∷◌, drop, Some, None}
-use Rattle.resolver.specs.Operators.{any_between, parts_of}
-use Rattle.resolver.proofs.lists.arms_between.Given as goal
-
-abbrev pub invariant-loop-arm : goal.invariant-loop-arm
-invariant-loop-arm l = any_between (parts_of (drop l.arm-index l.arms) ++ l.last ∷ []) ≡ any_between (parts_of l.arms ++ l.last ∷ [])
