@@ -1,7 +1,7 @@
 -- Appending a record.
 use Rattle.std.specs.Prelude.{◌≡◌, ℕ, ◌-◌, ◌<◌, ◌≤◌, ◌⊎◌, List, [], ◌∷◌, ◌++◌, length, take, drop, Option, option_map, Result, Ok, Err}
 use Rattle.vdb_base.specs.declared.calls.Failed.{Failed}
-use Rattle.gate_log.specs.Disk.{DiskTold, Faulted}
+use Rattle.gate_log.specs.Disk.{DiskTold, Fails}
 use Rattle.gate_log.specs.Stops.{Same}
 use Rattle.gate_log.specs.Records.{body, records}
 use Rattle.gate_log.specs.declared.append.AppendFault.{AppendFault}
@@ -45,15 +45,15 @@ pub record Untouched (old new : DiskTold) (before now : List ℕ → Type 0) : T
   pub stops : Same before now
 
 -- what the writes of an append leave
-abbrev pub Adds : List ℕ → DiskTold → DiskTold → Result (Unit {0}) Failed → Type 0
-Adds payload old new (Ok _) = Appended payload old new
-Adds payload old new (Err _) = Faulted old new
+abbrev pub Adds : List ℕ → DiskTold → DiskTold → (List ℕ → Type 0) → Result (Unit {0}) Failed → Type 0
+Adds payload old new now (Ok _) = Appended payload old new
+Adds payload old new now (Err _) = Fails old new now
 
 -- what an append leaves
 abbrev pub Appends : List ℕ → DiskTold → DiskTold → (List ℕ → Type 0) → (List ℕ → Type 0) → Result (Unit {0}) AppendFault → Type 0
 Appends payload old new before now (Ok _) = Appended payload old new
 Appends payload old new before now (Err fault.Full) = Untouched old new before now
-Appends payload old new before now (Err fault.Failed) = Faulted old new
+Appends payload old new before now (Err fault.Failed) = Fails old new now
 
 -- each content that a stop may leave has the records of these bytes and the new one
 abbrev pub HasRecord : List ℕ → (List ℕ → Type 0) → List ℕ → Type 0

@@ -16,11 +16,6 @@ overwritten at bytes file = take at file ++ bytes ++ drop (at + length bytes) fi
 abbrev pub IsWithin : ℕ → ℕ → DiskTold → Type 0
 IsWithin at n told = IfSome told.bytes (λ bytes. at + n ≤ length bytes)
 
--- the count rose, and the disk tells its bytes if it did before
-pub record Faulted (old new : DiskTold) : Type 0 where
-  pub rose : Rose old.faults new.faults
-  pub tells : is_some new.bytes ≡ is_some old.bytes
-
 -- A call failed: the count rose, and from then on reads give one of the contents that a stop may leave.
 pub record Fails (old new : DiskTold) (now : List ℕ → Type 0) : Type 0 where
   pub rose : Rose old.faults new.faults

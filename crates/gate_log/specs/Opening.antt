@@ -1,7 +1,7 @@
 -- Opening a log over a disk that a stop may have left.
 use Rattle.std.specs.Prelude.{◌≡◌, ℕ, List, Option, Some, None, option_map, IfSome, Result, Ok, Err}
 use Rattle.vdb_base.specs.declared.calls.Failed.{Failed}
-use Rattle.gate_log.specs.Disk.{DiskTold, Faulted}
+use Rattle.gate_log.specs.Disk.{DiskTold, Fails}
 use Rattle.gate_log.specs.Records.{records}
 use Rattle.gate_log.specs.Log.{IsOpenAt}
 use Rattle.gate_log.specs.declared.log.Log.{Log}
@@ -30,7 +30,7 @@ pub record FoundBad (old new : DiskTold) : Type 0 where
 abbrev pub Enters : DiskTold → DiskTold → (List ℕ → Type 0) → (List ℕ → Type 0) → Result ℕ OpenCause → Type 0
 Enters old new before now (Ok end) = Entered end old new before now
 Enters old new before now (Err cause.Bad) = FoundBad old new
-Enters old new before now (Err cause.Failed) = Faulted old new
+Enters old new before now (Err cause.Failed) = Fails old new now
 
 -- the place of the last gate, none where the bytes break the format, as an opening answers it
 abbrev pub entry_of : Result (Option ℕ) Failed → Result ℕ OpenCause

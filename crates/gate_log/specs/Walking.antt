@@ -1,9 +1,9 @@
 -- Walking a log, record by record.
-use Rattle.std.specs.Prelude.{◌≡◌, ℕ, ◌+◌, ◌-◌, ◌≤◌, List, [], ◌∷◌, ◌++◌, length, take, drop, Option, Some, None, Result, Ok, Err}
+use Rattle.std.specs.Prelude.{◌≡◌, ℕ, ◌+◌, ◌-◌, ◌<◌, ◌≤◌, List, [], ◌∷◌, ◌++◌, length, take, drop, Option, Some, None, Result, Ok, Err}
 use Rattle.vdb_base.specs.declared.calls.Failed.{Failed}
 use Rattle.vdb_base.specs.Counts.{Rose}
 use Rattle.gate_log.specs.Disk.{DiskTold}
-use Rattle.gate_log.specs.Records.{opened, records, records_from}
+use Rattle.gate_log.specs.Records.{log_limit, opened, records, records_from}
 use Rattle.gate_log.specs.declared.log.Span.{Span}
 
 -- the place of the gate behind the header and these records
@@ -50,6 +50,11 @@ pub record FoundRecord (at : ℕ) (span : Span) (bytes : List ℕ) : Type 0 wher
 abbrev pub NextIs : ℕ → Option Span → List ℕ → Type 0
 NextIs at None bytes = records_from at bytes ≡ Some []
 NextIs at (Some span) bytes = FoundRecord at span bytes
+
+-- The next gate stands behind this one, which stands within the limit. That holds of every disk, so that a walk ends.
+pub record IsBehind (at : ℕ) (span : Span) : Type 0 where
+  pub further : at < span.next
+  pub within : at < log_limit
 
 -- what a question leaves: nothing is changed, and where it failed the count rose
 abbrev pub Looks : {T : Type 0} → DiskTold → DiskTold → Result T Failed → Type 0

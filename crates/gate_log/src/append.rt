@@ -22,7 +22,7 @@ pub fn add<D: Disk>(disk: &mut D, gate: u64, frame: &[u8]) -> Result<(), Failed>
     requires ready { IfSome (D.told disk.old).bytes (IsOpenAt gate (D.images disk.old)) }
     requires form { IsFrame frame.now }
     requires fits { gate + length frame.now < 268435456 }
-    ensures leaves { Adds (payload_of frame.now) (D.told disk.old) (D.told disk.new) result }
+    ensures leaves { Adds (payload_of frame.now) (D.told disk.old) (D.told disk.new) (D.images disk.new) result }
     ensures stops { IfSome (D.told disk.old).bytes (MayHaveRecord (payload_of frame.now) (D.images disk.new)) }
     ensures kept { OnOk result (IfSome (D.told disk.old).bytes (HasRecord (payload_of frame.now) (D.images disk.new))) }
     ensures ready { OnOk result (IfSome (D.told disk.new).bytes (IsOpenAt (gate + length frame.now) (D.images disk.new))) }

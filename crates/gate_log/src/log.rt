@@ -36,7 +36,7 @@ impl<D: Disk> Log<D> {
     ghost use Rattle.gate_log.specs.Stops.{Same};
     ghost use Rattle.gate_log.specs.Log.{IsOpen, left_of};
     ghost use Rattle.gate_log.specs.Opening.{Enters, Keeps, disk_of, end_of, end_again};
-    ghost use Rattle.gate_log.specs.Walking.{IsGate, IsInPayload, IsPartOf, NextIs, Looks};
+    ghost use Rattle.gate_log.specs.Walking.{IsGate, IsInPayload, IsPartOf, IsBehind, NextIs, Looks};
     ghost use Rattle.gate_log.specs.Appending.{IsFrame, payload_of, Fits, left_after, Appends, MayHaveRecord, HasRecord};
 
     /// Opens what a stop may have left. A file of at most 9 bytes becomes the empty log. Where it is refused, the disk
@@ -49,6 +49,17 @@ impl<D: Disk> Log<D> {
         match enter(&mut disk) {
             Ok(end) => Ok(Log { disk, end }),
             Err(cause) => Err(OpenRefused { disk, cause }),
+        }
+    }
+
+    /// A log over a disk that isn't open yet: `reopen` comes first. Till then there is room for no frame.
+    pub fn closed(disk: D) -> Log<D>
+        ensures disk { result.disk ≡ disk }
+        ensures left { left_of result ≡ 0 }
+    {
+        Log {
+            disk,
+            end: LOG_LIMIT - 1,
         }
     }
 
@@ -79,6 +90,7 @@ impl<D: Disk> Log<D> {
         requires ready { IsOpen D.told D.images self.old }
         requires gate { IfSome (D.told self.old.disk).bytes (IsGate at) }
         ensures answer { IfOk result (λ found. IfSome (D.told self.old.disk).bytes (NextIs at found)) }
+        ensures behind { IfOk result (λ found. IfSome found (IsBehind at)) }
         ensures leaves { Looks (D.told self.old.disk) (D.told self.new.disk) result }
         ensures stops { Same (D.images self.old.disk) (D.images self.new.disk) }
         ensures ready { IsOpen D.told D.images self.new }

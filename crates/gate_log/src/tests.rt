@@ -218,6 +218,16 @@ fn appends_to_an_empty_file(rt: HostRuntime) -> Result<(), Fail> {
     Ok(())
 }
 
+#[test]
+fn a_closed_log_has_no_room(rt: HostRuntime) -> Result<(), Fail> {
+    let alloc = rt.alloc();
+    let mut log = Log::closed(disk(alloc, b"".as_slice(), &[])?);
+    assert_eq!(rt; log.left(), 0);
+    assert!(rt; log.reopen().is_ok());
+    assert_eq!(rt; log.left(), 268_435_447);
+    Ok(())
+}
+
 const PATH: &str = "gate_log_test.log";
 
 #[test]

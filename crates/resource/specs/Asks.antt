@@ -10,10 +10,12 @@ use Rattle.vdb_model.specs.World.{is_yes}
 use Rattle.vdb_model.specs.Answers.{Answered}
 use Rattle.vdb_model.specs.Can.{can}
 use Rattle.vdb_model.specs.Asking.{query_types, is_typed, is_bound}
-use Rattle.resource.specs.Told.{Told}
+use Rattle.resource.specs.Told.{Told, work, is_open}
 
--- the query is typed over the attached definitions, within the capabilities, and meets the access patterns
+-- no branch, or one that takes changes; and the query is typed over the attached definitions, within the capabilities, and
+-- meets the access patterns
 pub record Allows (told : Told) (q : SourceQuery) : Type 0 where
+  pub may_ask : is_open told.state ≡ true
   pub defs : List TableDef
   pub attached : told.defs ≡ Some defs
   pub typed : is_typed defs q ≡ true
@@ -46,4 +48,4 @@ pub record FitRows (told : Told) (q : SourceQuery) (rows : List Cells) : Type 0 
 
 -- where contents are told, the rows are an answer to the query over the tables as seen now
 abbrev pub AnswersQuery : Told → SourceQuery → List Cells → Type 0
-AnswersQuery told q rows = IfSome told.defs (λ defs. IfSome told.work (λ work. Answered defs work q rows))
+AnswersQuery told q rows = IfSome told.defs (λ defs. IfSome (work told) (λ tables. Answered defs tables q rows))

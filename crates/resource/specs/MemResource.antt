@@ -1,44 +1,56 @@
 -- A resource in memory: what it tells, and which of its calls fail.
-use Rattle.std.specs.Prelude.{◌≡◌, Bool, List, [], Option, Some, None}
+use Rattle.std.specs.Prelude.{◌≡◌, ℕ, Bool, true, false, List, [], Some, None}
 use Rattle.vdb_base.specs.declared.calls.Calls.{Calls}
 use Rattle.vdb_base.specs.Calls.{is_listed, after_call}
 use Rattle.vdb_model.specs.declared.source.Caps.{Caps}
-use Rattle.vdb_model.specs.declared.table.TableDef.{TableDef}
-use Rattle.vdb_model.specs.Rows.{Cells}
 use Rattle.resource.specs.declared.mem_resource.MemResource.{MemResource}
-use Rattle.resource.specs.declared.mem_resource.StoredTable.{StoredTable}
-use Rattle.resource.specs.Reading.{tables_of}
-use Rattle.resource.specs.Stored.{read_stored}
-use Rattle.resource.specs.Told.{Told}
+use Rattle.resource.specs.declared.resource.ResState.TheVariants as state
+use Rattle.resource.specs.declared.stored.StoredTable.{StoredTable}
+use Rattle.resource.specs.Fields.{fields_of}
+use Rattle.resource.specs.Holding.{Holding, told_held, images_held, first_image, other_image, image_at, state_of}
+use Rattle.resource.specs.Images.{Image}
+use Rattle.resource.specs.Stored.{read_store}
+use Rattle.resource.specs.Told.{Told, no_contents, is_settled}
 
--- what its calls go by: the tables and the calls made
-abbrev pub stored_of : MemResource → List StoredTable
-stored_of resource = resource.stored
-
-abbrev pub calls_of : MemResource → Calls
-calls_of resource = resource.calls
-
--- the tables' rows as read under the definitions, where there are any
-abbrev pub work_of : List StoredTable → Option (List TableDef) → Option (List (List Cells))
-work_of stored None = None
-work_of stored (Some defs) = tables_of (read_stored stored defs)
+abbrev pub held : MemResource → Holding
+held resource = fields_of resource.inner
 
 abbrev pub mem_told : MemResource → Told
-mem_told resource = record {
-  caps = resource.caps;
-  defs = resource.defs;
-  faults = resource.calls.faults;
-  reads = Some (read_stored resource.stored);
-  work = work_of resource.stored resource.defs;
-  asked = Some resource.asked.items;
-}
+mem_told resource = told_held (held resource)
+
+abbrev pub mem_images : MemResource → Image → Type 0
+mem_images resource = images_held (held resource)
+
+-- the calls that were made, and those that fail
+abbrev pub calls_of : MemResource → Calls
+calls_of resource = (held resource).calls
 
 -- before its first call
 abbrev pub unattached : List StoredTable → Caps → Told
-unattached stored caps = record { caps = caps; defs = None; faults = 0; reads = Some (read_stored stored); work = None; asked = Some [] }
+unattached stored caps = record {
+  caps = caps;
+  state = state.Idle;
+  reserved = false;
+  defs = None;
+  faults = 0;
+  spare = None;
+  reads = Some (read_store stored None);
+  contents = Some no_contents;
+  asked = Some [];
+}
 
--- The call fails exactly where it is listed, and the tables stay.
-pub record CallsByList (old new : MemResource) (failed : Bool) : Type 0 where
-  pub fails : failed ≡ is_listed (calls_of old)
-  pub calls : calls_of new ≡ after_call (calls_of old) failed
-  pub stored : stored_of new ≡ stored_of old
+-- the call fails exactly where it is listed
+pub record CallsByList (old new : Calls) (failed : Bool) : Type 0 where
+  pub fails : failed ≡ is_listed old
+  pub calls : new ≡ after_call old failed
+
+-- It is what a stop leaves: unattached, with the image of the number, in the state that the image gives. Its calls go on
+-- being counted.
+pub record IsStopped (image : ℕ) (old new : Holding) : Type 0 where
+  pub caps : new.caps ≡ old.caps
+  pub calls : new.calls ≡ old.calls
+  pub unattached : (new.defs ≡ None) × (new.asked ≡ []) × (new.reserved ≡ false)
+  pub settled : is_settled (state_of new.mode) ≡ true
+  pub first : first_image new ≡ image_at image old
+  pub alone : other_image new ≡ first_image new
+  pub stood : images_held old (first_image new)

@@ -9,7 +9,7 @@ ghost use Rattle.vdb_model.specs.Meaning as meaning;
 
 use std::alloc::Global;
 use std::collections::BTreeSet;
-use vdb_base::{NoMemory, Nums, Row, Rows, Seq, Value};
+use vdb_base::{NoMemory, Nums, Row, Seq, Value};
 
 fn cell(alloc: Global, row: &[Value], at: u32) -> Result<Value, NoMemory>
     ensures { IfOk result (λ v. v ≡ meaning.cell row.now at) }
@@ -20,8 +20,8 @@ fn cell(alloc: Global, row: &[Value], at: u32) -> Result<Value, NoMemory>
     }
 }
 
-/// A row cut to columns.
-fn cut(alloc: Global, row: &[Value], columns: &[u32]) -> Result<Row, NoMemory>
+/// A row cut to columns, in the order in which they are asked. A column past the row's end is NULL.
+pub fn cut(alloc: Global, row: &[Value], columns: &[u32]) -> Result<Row, NoMemory>
     ensures { IfOk result (λ made. made ≡ spec.cut columns.now row.now) }
 {
     let mut cells = Vec::with_capacity(alloc, columns.len())?;
@@ -29,16 +29,6 @@ fn cut(alloc: Global, row: &[Value], columns: &[u32]) -> Result<Row, NoMemory>
         cells.push(cell(alloc, row, *at)?)?;
     }
     Ok(Seq::from_vec(cells))
-}
-
-pub fn cut_rows(alloc: Global, rows: &[Row], columns: &[u32]) -> Result<Rows, NoMemory>
-    ensures { IfOk result (λ made. made ≡ spec.cut_rows columns.now rows.now) }
-{
-    let mut made = Vec::with_capacity(alloc, rows.len())?;
-    for row in rows {
-        made.push(cut(alloc, row.as_slice(), columns)?)?;
-    }
-    Ok(Seq::from_vec(made))
 }
 
 /// The keys of the rows so far.

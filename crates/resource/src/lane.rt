@@ -22,7 +22,7 @@ impl<S> Lane<S> {
     }
 }
 
-/// A list of lanes.
+/// A list of lanes, which has no copy, since a store has none.
 #[derive(Drop)]
 pub struct Lanes<S> {
     items: Vec<Lane<S>>,

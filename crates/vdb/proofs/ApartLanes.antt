@@ -5,6 +5,7 @@ use Rattle.vdb_model.specs.declared.table.Kind.{Kind}
 use Rattle.vdb_model.specs.Defs.{same_name}
 use Rattle.resource.specs.declared.lane.Lane.{Lane}
 use Rattle.resource.specs.Lanes.{labels_of}
+use Rattle.resource.specs.Told.{Told}
 use Rattle.vdb_session.specs.declared.parts.Parts.{Parts}
 use Rattle.vdb_session.specs.Lanes.{are_apart, names_of}
 use Rattle.vdb.specs.declared.words.Command.TheVariants.{Run}
@@ -52,5 +53,6 @@ label_names : (conns : List Conn) → first_each (labels conns) ≡ conn_names c
 label_names [] = refl
 label_names (conn ∷ conns) = ap (λ (names : List (List ℕ)). conn.name ∷ names) (label_names conns)
 
-pub lanes_apart : {S : Type 0} (setup : Setup) (old new : MakerTold S) (parts : Parts S) → are_apart (conn_names setup.conns) ≡ true → Made setup old new parts → are_apart (names_of parts.lanes) ≡ true
-lanes_apart setup old new parts apart made = subst (λ (names : List (List ℕ)). are_apart names ≡ true) (sym (lane_names parts.lanes ∙ ap first_each made.are_for ∙ label_names setup.conns)) apart
+pub lanes_apart : {S : Type 0} (told : S → Told) (setup : Setup) (old new : MakerTold S) (parts : Parts S) → are_apart (conn_names setup.conns) ≡ true → Made told setup old new parts
+    → are_apart (names_of parts.lanes) ≡ true
+lanes_apart told setup old new parts apart made = subst (λ (names : List (List ℕ)). are_apart names ≡ true) (sym (lane_names parts.lanes ∙ ap first_each made.are_for ∙ label_names setup.conns)) apart

@@ -7,6 +7,7 @@ use Rattle.vdb_model.specs.declared.reply.DeployFault.{DeployFault}
 use Rattle.vdb_model.specs.declared.reply.Reply.{Reply}
 use Rattle.vdb_model.specs.Defined.{Defined}
 use Rattle.vdb_model.specs.Rows.{Cells}
+use Rattle.resource.specs.Images.{Image}
 use Rattle.resource.specs.Told.{Told}
 use Rattle.vdb_session.specs.declared.parts.Parts.{Parts}
 use Rattle.vdb_session.specs.Lanes.{counts}
@@ -128,8 +129,8 @@ other_than : (s k n : ℕ) (whole : Bool) → k ≢ n → 4 ≢ n → s ≡ (if 
 other_than s k n true a b q f = a (sym q ∙ f)
 other_than s k n false a b q f = b (sym q ∙ f)
 
-module _ {S : Type 0} (told : S → Told) (words : List (List ℕ)) (old new : MakerTold S) (feed feed' : FeedTold) (out out' : SinkTold) (status : ℕ) where
-  runs_causes : (setup : Setup) → setup_of words ≡ Ok setup → Runs told setup old new feed feed' out out' status → Causes told words old new feed feed' out out' status
+module _ {S : Type 0} (told : S → Told) (images : S → Image → Type 0) (words : List (List ℕ)) (old new : MakerTold S) (feed feed' : FeedTold) (out out' : SinkTold) (status : ℕ) where
+  runs_causes : (setup : Setup) → setup_of words ≡ Ok setup → Runs told images setup old new feed feed' out out' status → Causes told words old new feed feed' out out' status
   runs_causes setup form r =
       let lines = lines_at told words setup form old new feed feed' status r.trace r.took r.end r.whole r.status_is r.ends in
       record {
@@ -157,13 +158,13 @@ module _ {S : Type 0} (told : S → Told) (words : List (List ℕ)) (old new : M
     sink_stays = sink_at out out' text status k whole p q;
   }
 
-  words_causes : (r : Result Setup ℕ) → setup_of words ≡ r → RunsWords told r old new feed feed' out out' status → Causes told words old new feed feed' out out' status
+  words_causes : (r : Result Setup ℕ) → setup_of words ≡ r → RunsWords told images r old new feed feed' out out' status → Causes told words old new feed feed' out out' status
   words_causes (Ok setup) form r = runs_causes setup form r
   words_causes (Err word) form r =
       line_causes (last_line [] (ending.Usage word)) 2 r.whole (λ f. (word, form)) (λ h. omega (arith, h)) (λ h. omega (arith, h)) (λ h. omega (arith, h)) r.printed r.status_is r.maker r.unread
 
   -- each status has its cause
-  pub causes-of : Headline told words old new feed feed' out out' status → Causes told words old new feed feed' out out' status
+  pub causes-of : Headline told images words old new feed feed' out out' status → Causes told words old new feed feed' out out' status
   causes-of (inl r) = words_causes (setup_of words) refl r
   causes-of (inr r) =
       line_causes (last_line [] ending.Memory) 5 r.whole (λ f. absurd (other_than status 5 2 r.whole (λ h. omega (arith, h)) (λ h. omega (arith, h)) r.status_is f))
@@ -295,30 +296,30 @@ module _ {S : Type 0} (told : S → Told) (setup : Setup) (old new : MakerTold S
     answered_at (ending.Whole seen) true p q y =
         (λ k. whole_at seen p q y, λ k. absurd (omega (arith, y.1, k, ap length (all_taken t.taken s.script feed.left feed'.left took s.input y.2))))
 
-module _ {S : Type 0} (told : S → Told) (words : List (List ℕ)) (old new : MakerTold S) (feed feed' : FeedTold) (out out' : SinkTold) (status : ℕ)
+module _ {S : Type 0} (told : S → Told) (images : S → Image → Type 0) (words : List (List ℕ)) (old new : MakerTold S) (feed feed' : FeedTold) (out out' : SinkTold) (status : ℕ)
     (n4 : status ≢ 4) (n5 : status ≢ 5) where
   unstarved : (whole : Bool) → status ≡ (if whole then 5 else 4) → ⊥
   unstarved true q = n5 q
   unstarved false q = n4 q
 
   -- words of the form were run
-  runs_at : (setup : Setup) → setup_of words ≡ Ok setup → Headline told words old new feed feed' out out' status → Runs told setup old new feed feed' out out' status
-  runs_at setup form (inl r) = subst (λ (x : Result Setup ℕ). RunsWords told x old new feed feed' out out' status) form r
+  runs_at : (setup : Setup) → setup_of words ≡ Ok setup → Headline told images words old new feed feed' out out' status → Runs told images setup old new feed feed' out out' status
+  runs_at setup form (inl r) = subst (λ (x : Result Setup ℕ). RunsWords told images x old new feed feed' out out' status) form r
   runs_at setup form (inr r) = absurd (unstarved r.whole r.status_is)
 
   usage_line : (word : ℕ) (whole : Bool) → Prints whole out out' (last_line [] (ending.Usage word)) → status ≡ (if whole then 2 else 4) → Prints true out out' (last_line [] (ending.Usage word)) × (status ≡ 2)
   usage_line word true p q = (p, q)
   usage_line word false p q = absurd (n4 q)
 
-  misused_at : (word : ℕ) → setup_of words ≡ Err word → Headline told words old new feed feed' out out' status → Prints true out out' (last_line [] (ending.Usage word)) × (status ≡ 2)
-  misused_at word form (inl r) = (let m : Misused word old new feed feed' out out' status = subst (λ (x : Result Setup ℕ). RunsWords told x old new feed feed' out out' status) form r in usage_line word m.whole m.printed m.status_is)
+  misused_at : (word : ℕ) → setup_of words ≡ Err word → Headline told images words old new feed feed' out out' status → Prints true out out' (last_line [] (ending.Usage word)) × (status ≡ 2)
+  misused_at word form (inl r) = (let m : Misused word old new feed feed' out out' status = subst (λ (x : Result Setup ℕ). RunsWords told images x old new feed feed' out out' status) form r in usage_line word m.whole m.printed m.status_is)
   misused_at word form (inr r) = absurd (unstarved r.whole r.status_is)
 
-  answered_by : (given : Given told words old) (s : Sound told given.parts feed) → Runs told given.setup old new feed feed' out out' status
+  answered_by : (given : Given told words old) (s : Sound told given.parts feed) → Runs told images given.setup old new feed feed' out out' status
       → (length s.script ≤ script_limit → AnswersWhole told s.cat given.parts s.script out out' status) × (script_limit < length s.script → AnswersFront told s.cat given.parts s.script out out' status)
   answered_by given s r = answered_at told given.setup old new feed feed' out out' status r.trace given.parts given.held n4 n5 s r.world_is r.took r.end r.whole r.printed r.status_is r.ends
 
-  answers_from : Headline told words old new feed feed' out out' status → Answers told words old feed feed' out out' status
+  answers_from : Headline told images words old new feed feed' out out' status → Answers told words old feed feed' out out' status
   answers_from h = record {
     usage = λ word form. misused_at word form h;
     deploy = λ given f refused. (let r = runs_at given.setup given.form h in
@@ -328,6 +329,6 @@ module _ {S : Type 0} (told : S → Told) (words : List (List ℕ)) (old new : M
   }
 
 -- a run to which nothing was wanting answers all
-pub complete-of : {S : Type 0} (told : S → Told) (words : List (List ℕ)) (old new : MakerTold S) (feed feed' : FeedTold) (out out' : SinkTold) (status : ℕ)
-    → Headline told words old new feed feed' out out' status → Complete told words old feed feed' out out' status
-complete-of told words old new feed feed' out out' status h n4 n5 = answers_from told words old new feed feed' out out' status n4 n5 h
+pub complete-of : {S : Type 0} (told : S → Told) (images : S → Image → Type 0) (words : List (List ℕ)) (old new : MakerTold S) (feed feed' : FeedTold) (out out' : SinkTold) (status : ℕ)
+    → Headline told images words old new feed feed' out out' status → Complete told words old feed feed' out out' status
+complete-of told images words old new feed feed' out out' status h n4 n5 = answers_from told images words old new feed feed' out out' status n4 n5 h

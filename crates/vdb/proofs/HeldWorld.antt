@@ -19,7 +19,7 @@ abbrev IsTold : Option (List (List Cells)) → Type 0
 IsTold o = (tables : List (List Cells)) × (o ≡ Some tables)
 
 sound_tables : (server : List ℕ) (defs : List TableDef) (reading : Reading) → cell_fault server defs reading ≡ None → IsTold (tables_of reading)
-sound_tables server defs (Sound tables) e = (tables, refl)
+sound_tables server defs (Sound tables branch) e = (tables, refl)
 sound_tables server defs (CellFault table row col) e = cc
 sound_tables server defs (StoreFault table) e = cc
 

@@ -2,6 +2,7 @@ pub mod AnswerSteps
 pub mod ApartLanes
 pub mod Causes
 pub mod Cuts
+pub mod LostLanes
 pub mod HeldWorld
 pub mod LaneTexts
 pub mod MadeSays

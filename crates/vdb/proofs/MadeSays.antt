@@ -7,6 +7,7 @@ use Rattle.vdb_model.specs.declared.reply.Reply.{Reply}
 use Rattle.vdb_model.specs.declared.reply.Reply.TheVariants as reply
 use Rattle.vdb_model.specs.Defined.{Defined, nothing_defined}
 use Rattle.vdb_model.specs.Rows.{Cells}
+use Rattle.resource.specs.Images.{Image}
 use Rattle.resource.specs.Told.{Told}
 use Rattle.vdb_session.specs.declared.parts.Opened.{Opened}
 use Rattle.vdb_session.specs.declared.parts.Parts.{Parts}
@@ -33,7 +34,7 @@ use Rattle.vdb.specs.Making.{MakerTold, Takes, GivesBack, AreFor}
 use Rattle.vdb.specs.Session.{pieces_read}
 use Rattle.vdb.specs.Running.{IsMadeRun, IsRun}
 use Rattle.vdb.specs.Headline.{held_world, world_held, Opens, AnsweredAll, Quiet, Ends}
-use Rattle.vdb.proofs.RunSays.{is_sink, trace_of, Says, Says-nothing, Says-not_made, Stays-trans, engine-stays, where-held, where-both, held-again, lane-rose}
+use Rattle.vdb.proofs.RunSays.{is_sink, trace_of, Says, Says-nothing, Says-not_made, handed_back, stays_on, where-held, where-both, held-again, lane-rose}
 
 -- replies over rows that are told are replies over rows that are not
 Done-untold : (cat : Defined) (w : Option (List (List Cells))) (p : Piece) (r : Reply) → Done cat w p r → Done cat None p r
@@ -98,7 +99,7 @@ read-replies cat w feed feed' taken bytes end.TooLong rs r d = subst (λ (bs : L
 read-replies cat w feed feed' taken bytes end.Failed rs r d = subst (λ (bs : List ℕ). Replies cat w (statements_of bs false) rs) (r.0 ∙ sym (take_all SCRIPT_LIMIT taken r.1)) d
 read-replies cat w feed feed' taken bytes end.Memory rs r d = Replies-none cat w (statements_of (take SCRIPT_LIMIT taken) false) rs d
 
-module _ {S : Type 0} (told : S → Told) (setup : Setup) (old new mid : MakerTold S) (feed feed' : FeedTold) (out out' : SinkTold) (parts : Parts S) where
+module _ {S : Type 0} (told : S → Told) (images : S → Image → Type 0) (setup : Setup) (old new mid : MakerTold S) (feed feed' : FeedTold) (out out' : SinkTold) (parts : Parts S) where
   -- the start was refused
   refused-ends : (after : Parts S) (f : StartFault) → AreFor setup parts → Takes old.held mid.held parts → GivesBack mid.held new.held after → new.faults ≡ old.faults → feed' ≡ feed
       → LaneCounts (failed_lane f) (counts told parts) (counts told after) → HasReason told parts.ddl parts.lanes f
@@ -136,7 +137,7 @@ module _ {S : Type 0} (told : S → Told) (setup : Setup) (old new mid : MakerTo
     answered-says : (read : ReadEnd) (some : List Piece) (whole : Bool) (f : Option ℕ) (seen : Seen) (e : Ending)
         → feed.left ≡ prepended taken feed'.left → Reads feed feed' taken bytes read
         → (a : Answered told (pieces_read bytes read) some started after out out' whole f seen) → not (is_sink e) ≡ whole
-        → Ends told setup old new feed feed' (trace_of told old started.catalog taken a.replies) e → Says told setup old new feed feed' out out' e
+        → Ends told setup old new feed feed' (trace_of told old started.catalog taken a.replies) e → Says told images setup old new feed feed' out out' e
     answered-says read some whole f seen e took r a k y =
         let cat = started.catalog in
         let w = held_world told cat old.held in
@@ -149,12 +150,13 @@ module _ {S : Type 0} (told : S → Told) (setup : Setup) (old new mid : MakerTo
           each = read-replies cat w feed feed' taken bytes read a.replies r (subst (λ (ps : List Piece). Replies cat w ps a.replies) (sym a.split) (Replies-first cat w a.first some a.replies (all-held a.first a.replies a.each)));
           printed = subst (λ (b : Bool). Prints b out out' (replies_text a.replies)) (sym k) a.printed;
           ends = y;
-          kept = held-again told old.held mid.held new.held parts after.parts t g (Stays-trans told parts started.parts after.parts s.stays (engine-stays told started after a.stays));
+          kept = held-again told images old.held mid.held new.held parts after.parts t g
+              (handed_back told images parts after.parts (stays_on told parts started after s.stays a.stays));
         }
 
     -- a started run, by its end of reading and its answers
     script-says : (read : ReadEnd) (answers : Answers) → feed.left ≡ prepended taken feed'.left → Reads feed feed' taken bytes read
-        → IsAnswered told (pieces_read bytes read) started after out out' answers → Says told setup old new feed feed' out out' (ending_of read answers)
+        → IsAnswered told (pieces_read bytes read) started after out out' answers → Says told images setup old new feed feed' out out' (ending_of read answers)
     script-says read (answers.LaneFailed lane) took r a =
         answered-says read a.0 true (Some lane) a.1 _ took r a.2 refl
         (n, lane-rose told lane old.held mid.held new.held parts after.parts t g (subst (λ (ns : List ℕ). RoseAt lane ns (counts told after.parts)) s.counts_stay a.2.lanes))
@@ -182,25 +184,25 @@ module _ {S : Type 0} (told : S → Told) (setup : Setup) (old new mid : MakerTo
         )
     script-says end.Memory (answers.Whole seen) took r a = answered-says end.Memory [] true None seen _ took r a refl (quiet r a.lanes)
 
-pub Says-made : {S : Type 0} (told : S → Told) (setup : Setup) (old new : MakerTold S) (feed feed' : FeedTold) (out out' : SinkTold) (e : Ending)
-    → IsMadeRun told setup old new feed feed' out out' e → Says told setup old new feed feed' out out' e
-Says-made told setup old new feed feed' out out' e r =
+pub Says-made : {S : Type 0} (told : S → Told) (images : S → Image → Type 0) (setup : Setup) (old new : MakerTold S) (feed feed' : FeedTold) (out out' : SinkTold) (e : Ending)
+    → IsMadeRun told images setup old new feed feed' out out' e → Says told images setup old new feed feed' out out' e
+Says-made told images setup old new feed feed' out out' e r =
     let n : new.faults ≡ old.faults = r.keeps.1 ∙ r.made.count in
     elim r.session [
       | inl s ↦
           let g : GivesBack r.mid.held new.held s.refused.parts = subst (λ (p : Parts _). GivesBack r.mid.held new.held p) s.parts r.keeps.0 in
-          subst (λ (e : Ending). Says told setup old new feed feed' out out' e) (sym s.ending_is)
-          (Says-nothing told setup old new feed feed' out out' (start_ending s.refused.fault) s.unread s.silent (start-no_sink s.refused.fault)
-          (refused-ends told setup old new r.mid feed feed' out out' r.parts s.refused.parts s.refused.fault r.made.are_for r.made.takes g n s.unread s.start.lanes s.start.why)
-          (held-again told old.held r.mid.held new.held r.parts s.refused.parts r.made.takes g s.start.stays))
+          subst (λ (e : Ending). Says told images setup old new feed feed' out out' e) (sym s.ending_is)
+          (Says-nothing told images setup old new feed feed' out out' (start_ending s.refused.fault) s.unread s.silent (start-no_sink s.refused.fault)
+          (refused-ends told images setup old new r.mid feed feed' out out' r.parts s.refused.parts s.refused.fault r.made.are_for r.made.takes g n s.unread s.start.lanes s.start.why)
+          (held-again told images old.held r.mid.held new.held r.parts s.refused.parts r.made.takes g s.start.back))
       | inr s ↦
           let g : GivesBack r.mid.held new.held s.after.parts = subst (λ (p : Parts _). GivesBack r.mid.held new.held p) s.parts r.keeps.0 in
-          subst (λ (e : Ending). Says told setup old new feed feed' out out' e) (sym s.run.ending_is)
-          (script-says told setup old new r.mid feed feed' out out' r.parts s.started s.after r.made.are_for r.made.takes g n s.start s.run.bytes s.run.is_read.taken
+          subst (λ (e : Ending). Says told images setup old new feed feed' out out' e) (sym s.run.ending_is)
+          (script-says told images setup old new r.mid feed feed' out out' r.parts s.started s.after r.made.are_for r.made.takes g n s.start s.run.bytes s.run.is_read.taken
           s.run.read s.run.answers s.run.is_read.took s.run.is_read.ends s.run.is_answered)
     ]
 
-pub Says-run : {S : Type 0} (told : S → Told) (setup : Setup) (old new : MakerTold S) (feed feed' : FeedTold) (out out' : SinkTold) (e : Ending)
-    → IsRun told setup old new feed feed' out out' e → Says told setup old new feed feed' out out' e
-Says-run told setup old new feed feed' out out' e (inl r) = Says-not_made told setup old new feed feed' out out' e r
-Says-run told setup old new feed feed' out out' e (inr r) = Says-made told setup old new feed feed' out out' e r
+pub Says-run : {S : Type 0} (told : S → Told) (images : S → Image → Type 0) (setup : Setup) (old new : MakerTold S) (feed feed' : FeedTold) (out out' : SinkTold) (e : Ending)
+    → IsRun told images setup old new feed feed' out out' e → Says told images setup old new feed feed' out out' e
+Says-run told images setup old new feed feed' out out' e (inl r) = Says-not_made told images setup old new feed feed' out out' e r
+Says-run told images setup old new feed feed' out out' e (inr r) = Says-made told images setup old new feed feed' out out' e r

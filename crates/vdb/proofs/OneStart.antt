@@ -18,7 +18,7 @@ use Rattle.resource.specs.Reading.{Reading}
 use Rattle.resource.specs.Told.{Told}
 use Rattle.vdb_session.specs.declared.parts.Parts.{Parts}
 use Rattle.vdb_session.specs.Shown.{tables_for}
-use Rattle.vdb_session.specs.Starting.{cell_fault, Deploys, NoItems, NoDeployment, ReadsAs, IsFirstBad, IsStartRefusal}
+use Rattle.vdb_session.specs.Starting.{cell_fault, Deploys, NoItems, NoDeployment, ReadsAs, IsFirst, IsStartRefusal}
 use Rattle.vdb_session.proofs.ServedLanes.{head_same, tail_same}
 use Rattle.vdb.specs.Causes.{TellsContents, Refused}
 
@@ -107,19 +107,19 @@ module _ {S : Type 0} (told : S → Told) (cat : Defined) where
       one_first f g xs ys x y us vs (tail_same a b (xs ++ x ∷ us) (ys ++ y ∷ vs) e) (All-tail Tells a (xs ++ x ∷ us) t)
       (All-tail (ReadsAs told cat None) a xs s) (All-tail (ReadsAs told cat None) b ys r) p q
 
-  one_first_bad : (lanes : List (Lane S)) (f g : DeployFault) → TellsContents told lanes → IsFirstBad told cat lanes f → IsFirstBad told cat lanes g → f ≡ g
+  one_first_bad : (lanes : List (Lane S)) (f g : DeployFault) → TellsContents told lanes → IsFirst (ReadsAs told cat) lanes f → IsFirst (ReadsAs told cat) lanes g → f ≡ g
   one_first_bad lanes f g t p q =
-      one_first f g p.before q.before p.lane q.lane p.after q.after (sym p.split ∙ q.split) (subst (All Tells) p.split t) p.sound q.sound p.breaks q.breaks
+      one_first f g p.before q.before p.lane q.lane p.after q.after (sym p.split ∙ q.split) (subst (All Tells) p.split t) p.sound q.sound p.has q.has
 
   -- where all are sound none is bad
-  none_bad : (lanes : List (Lane S)) (f : DeployFault) → TellsContents told lanes → All (ReadsAs told cat None) lanes → IsFirstBad told cat lanes f → ⊥
+  none_bad : (lanes : List (Lane S)) (f : DeployFault) → TellsContents told lanes → All (ReadsAs told cat None) lanes → IsFirst (ReadsAs told cat) lanes f → ⊥
   none_bad lanes f t s p =
       not_bad p.lane f (at_middle Tells p.before p.lane p.after (subst (All Tells) p.split t))
-      (at_middle (ReadsAs told cat None) p.before p.lane p.after (subst (All (ReadsAs told cat None)) p.split s)) p.breaks
+      (at_middle (ReadsAs told cat None) p.before p.lane p.after (subst (All (ReadsAs told cat None)) p.split s)) p.has
 
 module _ {S : Type 0} (told : S → Told) (parts : Parts S) where
-  first_bad_in : (c d : Defined) (f : DeployFault) → c ≡ d → IsFirstBad told c parts.lanes f → IsFirstBad told d parts.lanes f
-  first_bad_in c d f e p = subst (λ (c : Defined). IsFirstBad told c parts.lanes f) e p
+  first_bad_in : (c d : Defined) (f : DeployFault) → c ≡ d → IsFirst (ReadsAs told c) parts.lanes f → IsFirst (ReadsAs told d) parts.lanes f
+  first_bad_in c d f e p = subst (λ (c : Defined). IsFirst (ReadsAs told c) parts.lanes f) e p
 
   -- what opens isn't refused
   pub not_refused : (cat : Defined) (f : DeployFault) → Deploys told parts.ddl parts.lanes cat → All (ReadsAs told cat None) parts.lanes → Refused told parts f → ⊥

@@ -6,6 +6,7 @@ use Rattle.vdb_base.specs.Counts.{Rose}
 use Rattle.vdb_base.specs.Feeding.{FeedTold}
 use Rattle.vdb_base.specs.Printing.{SinkTold, appended, Prints}
 use Rattle.vdb_base.proofs.Writing.{Prints-append, appended-nil}
+use Rattle.resource.specs.Images.{Image}
 use Rattle.resource.specs.Told.{Told}
 use Rattle.vdb_session.specs.Replies.{replies_text}
 use Rattle.vdb.specs.declared.ending.Ending.{Ending}
@@ -40,9 +41,9 @@ Prints-cut false x y z text p q = rw (append-nil text) (
   rose_twice x.faults y.faults z.faults p.1 q.1,
 )
 
-module _ {S : Type 0} (told : S → Told) (setup : Setup) (old new : MakerTold S) (feed feed' : FeedTold) (out mid out' : SinkTold) (status : ℕ) where
-  runs-with : (e : Ending) (whole : Bool) (s : Says told setup old new feed feed' out mid e) → Prints whole out out' (replies_text s.replies ++ last_line setup.conns e)
-      → status ≡ (if whole then status_of e else 4) → (e ≡ ending.SinkFailed → whole ≡ false) → Runs told setup old new feed feed' out out' status
+module _ {S : Type 0} (told : S → Told) (images : S → Image → Type 0) (setup : Setup) (old new : MakerTold S) (feed feed' : FeedTold) (out mid out' : SinkTold) (status : ℕ) where
+  runs-with : (e : Ending) (whole : Bool) (s : Says told images setup old new feed feed' out mid e) → Prints whole out out' (replies_text s.replies ++ last_line setup.conns e)
+      → status ≡ (if whole then status_of e else 4) → (e ≡ ending.SinkFailed → whole ≡ false) → Runs told images setup old new feed feed' out out' status
   runs-with e whole s p q k = record {
     trace = trace_of told old s.cat s.taken s.replies;
     end = e;
@@ -58,15 +59,15 @@ module _ {S : Type 0} (told : S → Told) (setup : Setup) (old new : MakerTold S
     kept = s.kept;
   }
 
-  runs-last : (e : Ending) → (s : Says told setup old new feed feed' out mid e) → Prints true out mid (replies_text s.replies) → Finishes setup.conns e mid out' status
-      → (e ≡ ending.SinkFailed → ⊥) → Runs told setup old new feed feed' out out' status
+  runs-last : (e : Ending) → (s : Says told images setup old new feed feed' out mid e) → Prints true out mid (replies_text s.replies) → Finishes setup.conns e mid out' status
+      → (e ≡ ending.SinkFailed → ⊥) → Runs told images setup old new feed feed' out out' status
   runs-last e s p f k = runs-with e f.whole s (Prints-append f.whole out mid out' (replies_text s.replies) (last_line setup.conns e) p f.printed) f.status_is (λ q. absurd (k q))
 
   four : (b : Bool) (k : ℕ) → (if b then k else k) ≡ k
   four true k = refl
   four false k = refl
 
-  runs-of : (e : Ending) → Says told setup old new feed feed' out mid e → Finishes setup.conns e mid out' status → Runs told setup old new feed feed' out out' status
+  runs-of : (e : Ending) → Says told images setup old new feed feed' out mid e → Finishes setup.conns e mid out' status → Runs told images setup old new feed feed' out out' status
   runs-of (ending.Usage word) s f = runs-last (ending.Usage word) s s.printed f (λ q. cc)
   runs-of (ending.Deploy d) s f = runs-last (ending.Deploy d) s s.printed f (λ q. cc)
   runs-of ending.MakerFailed s f = runs-last ending.MakerFailed s s.printed f (λ q. cc)
@@ -77,15 +78,15 @@ module _ {S : Type 0} (told : S → Told) (setup : Setup) (old new : MakerTold S
   runs-of ending.TooLong s f = runs-last ending.TooLong s s.printed f (λ q. cc)
   runs-of (ending.Whole seen) s f = runs-last (ending.Whole seen) s s.printed f (λ q. cc)
 
-  pub headline-of : (words : List (List ℕ)) (e : Ending) → setup_of words ≡ Ok setup → IsRun told setup old new feed feed' out mid e → Finishes setup.conns e mid out' status
-      → Headline told words old new feed feed' out out' status
-  headline-of words e w r f = inl (rw w (runs-of e (Says-run told setup old new feed feed' out mid e r) f))
+  pub headline-of : (words : List (List ℕ)) (e : Ending) → setup_of words ≡ Ok setup → IsRun told images setup old new feed feed' out mid e → Finishes setup.conns e mid out' status
+      → Headline told images words old new feed feed' out out' status
+  headline-of words e w r f = inl (rw w (runs-of e (Says-run told images setup old new feed feed' out mid e r) f))
 
-module _ {S : Type 0} (told : S → Told) (words : List (List ℕ)) (maker : MakerTold S) (feed : FeedTold) (conns : List Conn) (out out' : SinkTold) (status : ℕ) where
-  unread_says : (f : WordsFault) → IsUsage (setup_of words) f → Finishes conns (words_ending f) out out' status → Headline told words maker maker feed feed out out' status
+module _ {S : Type 0} (told : S → Told) (images : S → Image → Type 0) (words : List (List ℕ)) (maker : MakerTold S) (feed : FeedTold) (conns : List Conn) (out out' : SinkTold) (status : ℕ) where
+  unread_says : (f : WordsFault) → IsUsage (setup_of words) f → Finishes conns (words_ending f) out out' status → Headline told images words maker maker feed feed out out' status
   unread_says (fault.Usage word) u f = inl (rw u record { whole = f.whole; printed = f.printed; status_is = f.status_is; maker = refl; unread = refl })
   unread_says fault.Memory u f = inr record { whole = f.whole; printed = f.printed; status_is = f.status_is; maker = refl; unread = refl }
 
   -- words that were not read
-  pub headline-unread : (f : WordsFault) (e : Ending) → IsUsage (setup_of words) f → e ≡ words_ending f → Finishes conns e out out' status → Headline told words maker maker feed feed out out' status
+  pub headline-unread : (f : WordsFault) (e : Ending) → IsUsage (setup_of words) f → e ≡ words_ending f → Finishes conns e out out' status → Headline told images words maker maker feed feed out out' status
   headline-unread f e u q h = unread_says f u (subst (λ (e : Ending). Finishes conns e out out' status) q h)

@@ -1,15 +1,19 @@
 -- What a run says: the text that it printed, and the causes of its ending.
-use Rattle.std.proofs.Common.{◌≡◌, inl, inr, ℕ, Bool, true, false, not, List, [], ◌∷◌, Option, Some, None, map, take, IfSome, refl, sym, ap, ◌∙◌, subst}
+use Rattle.std.proofs.Common.{◌≡◌, inl, inr, ℕ, Bool, true, false, not, List, [], ◌∷◌, Option, Some, None, map, take, IfSome, is_some, refl, sym, ap, ◌∙◌, subst}
 use Rattle.vdb_base.specs.Feeding.{FeedTold, prepended}
 use Rattle.vdb_base.specs.Printing.{SinkTold, Prints}
 use Rattle.vdb_base.proofs.Writing.{Prints-nil}
 use Rattle.vdb_model.specs.declared.reply.Reply.{Reply}
 use Rattle.vdb_model.specs.Defined.{Defined, nothing_defined}
+use Rattle.resource.specs.declared.lane.Lane.{Lane}
+use Rattle.resource.specs.Images.{Image}
+use Rattle.resource.specs.Lanes.{told_of}
 use Rattle.resource.specs.Told.{Told}
 use Rattle.vdb_session.specs.declared.parts.Opened.{Opened}
 use Rattle.vdb_session.specs.declared.parts.Parts.{Parts}
 use Rattle.vdb_session.specs.Answer.{EngineStays}
-use Rattle.vdb_session.specs.Lanes.{RoseAt, Stays, attached, store, lanes_of, counts}
+use Rattle.vdb_session.specs.Lanes.{RoseAt, Stays, HandedBack, DropsBranch, KeepsStore, AllKeep, KeepStores, attached, counts}
+use Rattle.vdb_session.proofs.ServedLanes.{head_same, tail_same}
 use Rattle.vdb_session.specs.Replies.{Replies, replies_text}
 use Rattle.vdb_session.specs.Script.{statements_of}
 use Rattle.vdb.specs.declared.ending.Ending.{Ending}
@@ -29,7 +33,7 @@ abbrev pub trace_of : {S : Type 0} → (S → Told) → MakerTold S → Defined 
 trace_of told old cat taken replies = record { taken = taken; cat = cat; world = held_world told cat old.held; replies = replies }
 
 -- what a run says: what it took, replied and printed, and why it ended so
-pub record Says {S : Type 0} (told : S → Told) (setup : Setup) (old new : MakerTold S) (feed feed' : FeedTold) (out out' : SinkTold) (e : Ending) : Type 0 where
+pub record Says {S : Type 0} (told : S → Told) (images : S → Image → Type 0) (setup : Setup) (old new : MakerTold S) (feed feed' : FeedTold) (out out' : SinkTold) (e : Ending) : Type 0 where
   pub cat : Defined
   pub taken : List ℕ
   pub replies : List Reply
@@ -38,24 +42,57 @@ pub record Says {S : Type 0} (told : S → Told) (setup : Setup) (old new : Make
   pub each : Replies cat (held_world told cat old.held) (statements_of (take SCRIPT_LIMIT taken) ended) replies
   pub printed : Prints (not (is_sink e)) out out' (replies_text replies)
   pub ends : Ends told setup old new feed feed' (trace_of told old cat taken replies) e
-  pub kept : HeldAgain told old.held new.held
+  pub kept : HeldAgain told images old.held new.held
 
-pub Stays-refl : {S : Type 0} (told : S → Told) (p : Parts S) → Stays told p p
-Stays-refl told p = record { ddl = refl; labels = refl; stores = refl }
+-- a store that was kept stays so while it is asked
+keep_on : (t u v : Told) → KeepsStore t u → attached v ≡ attached u → KeepsStore t v
+keep_on t u v k e = record {
+  caps = ap (λ (t : Told). t.caps) e ∙ k.caps;
+  tells = ap (λ (t : Told). is_some t.reads) e ∙ k.tells;
+  reads = elim k.reads [
+    | inl same ↦ inl (ap (λ (t : Told). t.reads) e ∙ same)
+    | inr lost ↦ inr (record {
+      defs = lost.defs;
+      attached = ap (λ (t : Told). t.defs) e ∙ lost.attached;
+      reads = subst (λ (reads : Option Image). IfSome t.reads (λ was. IfSome reads (λ now. DropsBranch (was lost.defs) (now lost.defs)))) (sym (ap (λ (t : Told). t.reads) e)) lost.reads;
+    })
+  ];
+}
 
-pub Stays-trans : {S : Type 0} (told : S → Told) (p q r : Parts S) → Stays told p q → Stays told q r → Stays told p r
-Stays-trans told p q r a b = record { ddl = b.ddl ∙ a.ddl; labels = b.labels ∙ a.labels; stores = b.stores ∙ a.stores }
+all_keep_on : {S : Type 0} (told : S → Told) (olds mids news : List (Lane S)) → AllKeep told olds mids → map attached (told_of told news) ≡ map attached (told_of told mids) → AllKeep told olds news
+all_keep_on told [] [] [] k e = tt
+all_keep_on told [] [] (n ∷ ns) k e = cc
+all_keep_on told [] (m ∷ ms) ns k e = absurd k
+all_keep_on told (o ∷ os) [] ns k e = absurd k
+all_keep_on told (o ∷ os) (m ∷ ms) [] k e = cc
+all_keep_on told (o ∷ os) (m ∷ ms) (n ∷ ns) k e = (
+  keep_on (told o.res) (told m.res) (told n.res) k.0 (head_same (attached (told n.res)) (attached (told m.res)) (map attached (told_of told ns)) (map attached (told_of told ms)) e),
+  all_keep_on told os ms ns k.1 (tail_same (attached (told n.res)) (attached (told m.res)) (map attached (told_of told ns)) (map attached (told_of told ms)) e),
+)
 
-store-attached : (ts : List Told) → map store (map attached ts) ≡ map store ts
-store-attached [] = refl
-store-attached (t ∷ ts) = ap (λ us. store t ∷ us) (store-attached ts)
+all_keep_same : {S : Type 0} (told : S → Told) (lanes : List (Lane S)) → AllKeep told lanes lanes
+all_keep_same told [] = tt
+all_keep_same told (lane ∷ lanes) = (record { caps = refl; tells = refl; reads = inl refl }, all_keep_same told lanes)
 
--- what an engine keeps, its parts keep
-pub engine-stays : {S : Type 0} (told : S → Told) (a b : Opened S) → EngineStays told a b → Stays told a.parts b.parts
-engine-stays told a b s = record {
-  ddl = s.ddl;
-  labels = s.labels;
-  stores = sym (store-attached (lanes_of told b.parts)) ∙ ap (map store) s.lanes ∙ store-attached (lanes_of told a.parts);
+kept_stores : {S : Type 0} (told : S → Told) (images : S → Image → Type 0) (olds news : List (Lane S)) → AllKeep told olds news → KeepStores told images olds news
+kept_stores told images [] [] k = tt
+kept_stores told images [] (n ∷ ns) k = absurd k
+kept_stores told images (o ∷ os) [] k = absurd k
+kept_stores told images (o ∷ os) (n ∷ ns) k = (inl k.0, kept_stores told images os ns k.1)
+
+-- parts that stay are handed back
+pub handed_back : {S : Type 0} (told : S → Told) (images : S → Image → Type 0) (p q : Parts S) → Stays told p q → HandedBack told images p q
+handed_back told images p q s = record { ddl = s.ddl; labels = s.labels; stores = kept_stores told images p.lanes q.lanes s.stores }
+
+handed_back_same : {S : Type 0} (told : S → Told) (images : S → Image → Type 0) (p : Parts S) → HandedBack told images p p
+handed_back_same told images p = handed_back told images p p (record { ddl = refl; labels = refl; stores = all_keep_same told p.lanes })
+
+-- what a start keeps of parts, an engine keeps while it answers
+pub stays_on : {S : Type 0} (told : S → Told) (p : Parts S) (a b : Opened S) → Stays told p a.parts → EngineStays told a b → Stays told p b.parts
+stays_on told p a b s e = record {
+  ddl = e.ddl ∙ s.ddl;
+  labels = e.labels ∙ s.labels;
+  stores = all_keep_on told p.lanes a.parts.lanes b.parts.lanes s.stores e.lanes;
 }
 
 -- what holds of parts that were made
@@ -79,11 +116,11 @@ where-same (Some None) n P e h = tt
 where-same (Some (Some p)) n P e h = subst (λ (n : Option (Option (Parts _))). IfSome n (λ held. IfSome held (λ q. P p q))) (sym e) (h p)
 
 -- parts that were made and kept
-pub held-again : {S : Type 0} (told : S → Told) (o mid n : Option (Option (Parts S))) (parts after : Parts S) → Takes o mid parts → GivesBack mid n after → Stays told parts after → HeldAgain told o n
-held-again told None mid n parts after t g s = subst (λ (m : Option (Option (Parts _))). GivesBack m n after) t g
-held-again told (Some h) mid n parts after t g s =
+pub held-again : {S : Type 0} (told : S → Told) (images : S → Image → Type 0) (o mid n : Option (Option (Parts S))) (parts after : Parts S) → Takes o mid parts → GivesBack mid n after → HandedBack told images parts after → HeldAgain told images o n
+held-again told images None mid n parts after t g s = subst (λ (m : Option (Option (Parts _))). GivesBack m n after) t g
+held-again told images (Some h) mid n parts after t g s =
     let b : n ≡ Some (Some after) = subst (λ (m : Option (Option (Parts _))). GivesBack m n after) t.1 g in
-    subst (λ (h : Option (Parts _)). HeldAgain told (Some h) n) (sym t.0) (after, b, s)
+    subst (λ (h : Option (Parts _)). HeldAgain told images (Some h) n) (sym t.0) (after, b, s)
 
 -- a lane of parts that were made and kept failed
 pub lane-rose : {S : Type 0} (told : S → Told) (lane : ℕ) (o mid n : Option (Option (Parts S))) (parts after : Parts S) → Takes o mid parts → GivesBack mid n after
@@ -94,20 +131,20 @@ lane-rose told lane (Some h) mid n parts after t g p =
     subst (λ (h : Option (Parts _)). LaneRose told lane (Some h) n) (sym t.0) (after, b, p)
 
 -- parts that stayed with the maker
-held-same : {S : Type 0} (told : S → Told) (o n : Option (Option (Parts S))) → n ≡ o → HeldAgain told o n
-held-same told None n e = e
-held-same told (Some None) n e = e
-held-same told (Some (Some p)) n e = (p, e, Stays-refl told p)
+held-same : {S : Type 0} (told : S → Told) (images : S → Image → Type 0) (o n : Option (Option (Parts S))) → n ≡ o → HeldAgain told images o n
+held-same told images None n e = e
+held-same told images (Some None) n e = e
+held-same told images (Some (Some p)) n e = (p, e, handed_back_same told images p)
 
 prepended-nil : (o : Option (List ℕ)) → o ≡ prepended [] o
 prepended-nil None = refl
 prepended-nil (Some xs) = refl
 
 -- nothing was read or printed
-pub Says-nothing : {S : Type 0} (told : S → Told) (setup : Setup) (old new : MakerTold S) (feed feed' : FeedTold) (out out' : SinkTold) (e : Ending)
-    → feed' ≡ feed → out' ≡ out → is_sink e ≡ false → Ends told setup old new feed feed' (trace_of told old nothing_defined [] []) e → HeldAgain told old.held new.held
-    → Says told setup old new feed feed' out out' e
-Says-nothing told setup old new feed feed' out out' e f o k y s = record {
+pub Says-nothing : {S : Type 0} (told : S → Told) (images : S → Image → Type 0) (setup : Setup) (old new : MakerTold S) (feed feed' : FeedTold) (out out' : SinkTold) (e : Ending)
+    → feed' ≡ feed → out' ≡ out → is_sink e ≡ false → Ends told setup old new feed feed' (trace_of told old nothing_defined [] []) e → HeldAgain told images old.held new.held
+    → Says told images setup old new feed feed' out out' e
+Says-nothing told images setup old new feed feed' out out' e f o k y s = record {
   cat = nothing_defined;
   taken = [];
   replies = [];
@@ -119,20 +156,20 @@ Says-nothing told setup old new feed feed' out out' e f o k y s = record {
   kept = s;
 }
 
-pub Says-not_made : {S : Type 0} (told : S → Told) (setup : Setup) (old new : MakerTold S) (feed feed' : FeedTold) (out out' : SinkTold) (e : Ending)
-    → IsNotMade old new feed feed' out out' e → Says told setup old new feed feed' out out' e
-Says-not_made told setup old new feed feed' out out' e r =
+pub Says-not_made : {S : Type 0} (told : S → Told) (images : S → Image → Type 0) (setup : Setup) (old new : MakerTold S) (feed feed' : FeedTold) (out out' : SinkTold) (e : Ending)
+    → IsNotMade old new feed feed' out out' e → Says told images setup old new feed feed' out out' e
+Says-not_made told images setup old new feed feed' out out' e r =
     elim r.make [
-      | inl p ↦ subst (λ (e : Ending). Says told setup old new feed feed' out out' e) (sym p.0)
-          (Says-nothing told setup old new feed feed' out out' ending.Memory r.unread r.silent refl
+      | inl p ↦ subst (λ (e : Ending). Says told images setup old new feed feed' out out' e) (sym p.0)
+          (Says-nothing told images setup old new feed feed' out out' ending.Memory r.unread r.silent refl
           record {
             maker = ap (λ (m : MakerTold _). m.faults) p.1;
             feed_stays = ap (λ (x : FeedTold). x.faults) r.unread;
             lanes = where-same old.held new.held (λ p q. counts told q ≡ counts told p) (ap (λ (m : MakerTold _). m.held) p.1) (λ p. refl);
           }
-          (held-same told old.held new.held (ap (λ (m : MakerTold _). m.held) p.1)))
-      | inr p ↦ subst (λ (e : Ending). Says told setup old new feed feed' out out' e) (sym p.0)
-          (Says-nothing told setup old new feed feed' out out' ending.MakerFailed r.unread r.silent refl
+          (held-same told images old.held new.held (ap (λ (m : MakerTold _). m.held) p.1)))
+      | inr p ↦ subst (λ (e : Ending). Says told images setup old new feed feed' out out' e) (sym p.0)
+          (Says-nothing told images setup old new feed feed' out out' ending.MakerFailed r.unread r.silent refl
           (p.2, record { unread = r.unread; none = refl })
-          (held-same told old.held new.held p.1))
+          (held-same told images old.held new.held p.1))
     ]

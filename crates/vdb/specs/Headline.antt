@@ -6,9 +6,10 @@ use Rattle.vdb_base.specs.Printing.{SinkTold, Prints}
 use Rattle.vdb_model.specs.declared.reply.Reply.{Reply}
 use Rattle.vdb_model.specs.Defined.{Defined}
 use Rattle.vdb_model.specs.Rows.{Cells}
+use Rattle.resource.specs.Images.{Image}
 use Rattle.resource.specs.Told.{Told}
 use Rattle.vdb_session.specs.declared.parts.Parts.{Parts}
-use Rattle.vdb_session.specs.Lanes.{RoseAt, Stays, counts}
+use Rattle.vdb_session.specs.Lanes.{RoseAt, HandedBack, counts}
 use Rattle.vdb_session.specs.Replies.{Replies, RepliesToAll, replies_text}
 use Rattle.vdb_session.specs.Script.{script_limit, Piece, statements_of}
 use Rattle.vdb_session.specs.Shown.{world_by, holds}
@@ -29,12 +30,12 @@ WhereHeld maker P = IfSome maker.held (λ held. IfSome held P)
 abbrev pub WhereBothHeld : {S : Type 0} → MakerTold S → MakerTold S → (Parts S → Parts S → Type 0) → Type 0
 WhereBothHeld old new P = WhereHeld old (λ parts. WhereHeld new (λ after. P parts after))
 
--- The parts that were held are held again, and what their stores hold stays; where it isn't told what is held, it still
+-- The parts that were held are held again, and their stores keep what they hold; where it isn't told what is held, it still
 -- isn't.
-abbrev pub HeldAgain : {S : Type 0} → (S → Told) → Option (Option (Parts S)) → Option (Option (Parts S)) → Type 0
-HeldAgain told None new = new ≡ None
-HeldAgain told (Some None) new = new ≡ Some None
-HeldAgain {S} told (Some (Some parts)) new = (after : Parts S) × (new ≡ Some (Some after)) × Stays told parts after
+abbrev pub HeldAgain : {S : Type 0} → (S → Told) → (S → Image → Type 0) → Option (Option (Parts S)) → Option (Option (Parts S)) → Type 0
+HeldAgain told images None new = new ≡ None
+HeldAgain told images (Some None) new = new ≡ Some None
+HeldAgain {S} told images (Some (Some parts)) new = (after : Parts S) × (new ≡ Some (Some after)) × HandedBack told images parts after
 
 -- Of the parts that were held and are held again the count of this lane rose. Where nothing was held no lane can have failed;
 -- where it isn't told what is held, this says nothing.
@@ -102,8 +103,8 @@ Ends told setup old new feed feed' t (ending.Whole seen) =
 -- What a run over words of the form says. The bytes that were taken from the feed are cut into statements. What was printed
 -- is the text of the replies to the first of them, which the definitions give over the rows that the held parts told, and
 -- then at most one last line; where the sink failed it is the first of that. The status and the last line are those of the
--- ending, whose cause is told; and what the stores hold stays.
-pub record Runs {S : Type 0} (told : S → Told) (setup : Setup) (old new : MakerTold S) (feed feed' : FeedTold) (out out' : SinkTold) (status : ℕ) : Type 0 where
+-- ending, whose cause is told; and the stores keep what they hold.
+pub record Runs {S : Type 0} (told : S → Told) (images : S → Image → Type 0) (setup : Setup) (old new : MakerTold S) (feed feed' : FeedTold) (out out' : SinkTold) (status : ℕ) : Type 0 where
   pub trace : Trace
   pub end : Ending
   pub ended : Bool
@@ -115,7 +116,7 @@ pub record Runs {S : Type 0} (told : S → Told) (setup : Setup) (old new : Make
   pub status_is : status ≡ (if whole then status_of end else 4)
   pub cut : end ≡ ending.SinkFailed → whole ≡ false
   pub ends : Ends told setup old new feed feed' trace end
-  pub kept : HeldAgain told old.held new.held
+  pub kept : HeldAgain told images old.held new.held
 
 -- Words that have no form: their first wrong or missing place is printed, and nobody else is asked anything.
 pub record Misused {S : Type 0} (word : ℕ) (old new : MakerTold S) (feed feed' : FeedTold) (out out' : SinkTold) (status : ℕ) : Type 0 where
@@ -133,11 +134,11 @@ pub record Starved {S : Type 0} (old new : MakerTold S) (feed feed' : FeedTold) 
   pub maker : new ≡ old
   pub unread : feed' ≡ feed
 
-abbrev pub RunsWords : {S : Type 0} → (S → Told) → Result Setup ℕ → MakerTold S → MakerTold S → FeedTold → FeedTold → SinkTold → SinkTold → ℕ → Type 0
-RunsWords told (Ok setup) old new feed feed' out out' status = Runs told setup old new feed feed' out out' status
-RunsWords told (Err word) old new feed feed' out out' status = Misused word old new feed feed' out out' status
+abbrev pub RunsWords : {S : Type 0} → (S → Told) → (S → Image → Type 0) → Result Setup ℕ → MakerTold S → MakerTold S → FeedTold → FeedTold → SinkTold → SinkTold → ℕ → Type 0
+RunsWords told images (Ok setup) old new feed feed' out out' status = Runs told images setup old new feed feed' out out' status
+RunsWords told images (Err word) old new feed feed' out out' status = Misused word old new feed feed' out out' status
 
 -- what the program says of its words, or that memory was wanting for them
-abbrev pub Headline : {S : Type 0} → (S → Told) → List (List ℕ) → MakerTold S → MakerTold S → FeedTold → FeedTold → SinkTold → SinkTold → ℕ → Type 0
-Headline told words old new feed feed' out out' status =
-    RunsWords told (setup_of words) old new feed feed' out out' status ⊎ Starved old new feed feed' out out' status
+abbrev pub Headline : {S : Type 0} → (S → Told) → (S → Image → Type 0) → List (List ℕ) → MakerTold S → MakerTold S → FeedTold → FeedTold → SinkTold → SinkTold → ℕ → Type 0
+Headline told images words old new feed feed' out out' status =
+    RunsWords told images (setup_of words) old new feed feed' out out' status ⊎ Starved old new feed feed' out out' status

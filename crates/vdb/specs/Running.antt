@@ -3,6 +3,7 @@ use Rattle.std.specs.Prelude.{◌≡◌, ◌⊎◌, ℕ, Bool, if◌then◌else�
 use Rattle.vdb_base.specs.Counts.{Rose}
 use Rattle.vdb_base.specs.Feeding.{FeedTold}
 use Rattle.vdb_base.specs.Printing.{SinkTold, Prints}
+use Rattle.resource.specs.Images.{Image}
 use Rattle.resource.specs.Told.{Told}
 use Rattle.vdb.specs.declared.ending.Ending.{Ending}
 use Rattle.vdb.specs.declared.ending.Ending.TheVariants as ending
@@ -26,17 +27,17 @@ pub record IsNotMade {S : Type 0} (old new : MakerTold S) (feed feed' : FeedTold
   pub silent : out' ≡ out
 
 -- parts were made, run and kept
-pub record IsMadeRun {S : Type 0} (told : S → Told) (setup : Setup) (old new : MakerTold S) (feed feed' : FeedTold) (out out' : SinkTold) (e : Ending) : Type 0 where
+pub record IsMadeRun {S : Type 0} (told : S → Told) (images : S → Image → Type 0) (setup : Setup) (old new : MakerTold S) (feed feed' : FeedTold) (out out' : SinkTold) (e : Ending) : Type 0 where
   pub parts : Parts S
   pub after : Parts S
   pub mid : MakerTold S
-  pub made : Made setup old mid parts
+  pub made : Made told setup old mid parts
   pub keeps : Keeps mid new after
-  pub session : IsSession told parts after feed feed' out out' e
+  pub session : IsSession told images parts after feed feed' out out' e
 
-abbrev pub IsRun : {S : Type 0} → (S → Told) → Setup → MakerTold S → MakerTold S → FeedTold → FeedTold → SinkTold → SinkTold → Ending → Type 0
-IsRun told setup old new feed feed' out out' e =
-    IsNotMade old new feed feed' out out' e ⊎ IsMadeRun told setup old new feed feed' out out' e
+abbrev pub IsRun : {S : Type 0} → (S → Told) → (S → Image → Type 0) → Setup → MakerTold S → MakerTold S → FeedTold → FeedTold → SinkTold → SinkTold → Ending → Type 0
+IsRun told images setup old new feed feed' out out' e =
+    IsNotMade old new feed feed' out out' e ⊎ IsMadeRun told images setup old new feed feed' out out' e
 
 -- how words that were not read end
 abbrev pub words_ending : WordsFault → Ending

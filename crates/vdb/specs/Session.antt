@@ -2,6 +2,7 @@
 use Rattle.std.specs.Prelude.{◌≡◌, ◌⊎◌, ℕ, true, false, List, []}
 use Rattle.vdb_base.specs.Feeding.{FeedTold}
 use Rattle.vdb_base.specs.Printing.{SinkTold}
+use Rattle.resource.specs.Images.{Image}
 use Rattle.resource.specs.Told.{Told}
 use Rattle.vdb_session.specs.declared.parts.Opened.{Opened}
 use Rattle.vdb_session.specs.declared.parts.Parts.{Parts}
@@ -33,10 +34,10 @@ pub record IsScriptRun {S : Type 0} (told : S → Told) (old new : Opened S) (fe
   pub ending_is : ending ≡ ending_of read answers
 
 -- the start was refused, and nothing was read or printed
-pub record IsNotStarted {S : Type 0} (told : S → Told) (old new : Parts S) (feed feed' : FeedTold) (out out' : SinkTold) (ending : Ending) : Type 0 where
+pub record IsNotStarted {S : Type 0} (told : S → Told) (images : S → Image → Type 0) (old new : Parts S) (feed feed' : FeedTold) (out out' : SinkTold) (ending : Ending) : Type 0 where
   pub refused : StartRefused S
   pub parts : new ≡ refused.parts
-  pub start : NotStarted told old refused
+  pub start : NotStarted told images old refused
   pub ending_is : ending ≡ start_ending refused.fault
   pub unread : feed' ≡ feed
   pub silent : out' ≡ out
@@ -49,6 +50,6 @@ pub record IsStartedRun {S : Type 0} (told : S → Told) (old new : Parts S) (fe
   pub start : Started told old started
   pub run : IsScriptRun told started after feed feed' out out' ending
 
-abbrev pub IsSession : {S : Type 0} → (S → Told) → Parts S → Parts S → FeedTold → FeedTold → SinkTold → SinkTold → Ending → Type 0
-IsSession told old new feed feed' out out' ending =
-    IsNotStarted told old new feed feed' out out' ending ⊎ IsStartedRun told old new feed feed' out out' ending
+abbrev pub IsSession : {S : Type 0} → (S → Told) → (S → Image → Type 0) → Parts S → Parts S → FeedTold → FeedTold → SinkTold → SinkTold → Ending → Type 0
+IsSession told images old new feed feed' out out' ending =
+    IsNotStarted told images old new feed feed' out out' ending ⊎ IsStartedRun told old new feed feed' out out' ending

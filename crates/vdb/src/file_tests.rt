@@ -23,13 +23,20 @@ const COLUMN_TWICE: &[u8] =
 const RENAMED: &[u8] =
     b"CREATE SERVER crm FOREIGN DATA WRAPPER csv;CREATE SCHEMA c SERVER crm;SET SCHEMA c;CREATE FOREIGN TABLE people (number integer OPTIONS (NAMEINSOURCE 'ID'), called string OPTIONS (NAMEINSOURCE 'name')) OPTIONS (NAMEINSOURCE 'cust');";
 
-/// Two tables of one file, with the same columns there.
-const SHARED: &[u8] =
-    b"CREATE SERVER crm FOREIGN DATA WRAPPER csv;CREATE SCHEMA c SERVER crm;SET SCHEMA c;CREATE FOREIGN TABLE cust (id integer, name string);CREATE FOREIGN TABLE again (number integer OPTIONS (NAMEINSOURCE 'ID'), name string) OPTIONS (NAMEINSOURCE 'cust');";
-
 /// Two tables of one file, with other columns each.
-const TORN: &[u8] =
-    b"CREATE SERVER crm FOREIGN DATA WRAPPER csv;CREATE SCHEMA c SERVER crm;SET SCHEMA c;CREATE FOREIGN TABLE cust (id integer, name string);CREATE FOREIGN TABLE again (name string, id integer) OPTIONS (NAMEINSOURCE 'cust');";
+const SHARED: &[u8] =
+    b"CREATE SERVER crm FOREIGN DATA WRAPPER csv;CREATE SCHEMA c SERVER crm;SET SCHEMA c;CREATE FOREIGN TABLE cust (id integer, name string);CREATE FOREIGN TABLE again (called string OPTIONS (NAMEINSOURCE 'NAME'), number integer OPTIONS (NAMEINSOURCE 'id'), other integer OPTIONS (NAMEINSOURCE 'ID')) OPTIONS (NAMEINSOURCE 'cust');";
+
+/// The table's file would lie outside of the folder.
+const OUTSIDE: &[u8] =
+    b"CREATE SERVER crm FOREIGN DATA WRAPPER csv;CREATE SCHEMA c SERVER crm;SET SCHEMA c;CREATE FOREIGN TABLE cust (id integer, name string) OPTIONS (NAMEINSOURCE '../vdb_file_test/cust');";
+
+/// The table's id is its key.
+const KEYED: &[u8] =
+    b"CREATE SERVER crm FOREIGN DATA WRAPPER csv;CREATE SCHEMA c SERVER crm;SET SCHEMA c;CREATE FOREIGN TABLE cust (id integer NOT NULL, name string, PRIMARY KEY (id));";
+
+const PRICES: &[u8] =
+    b"CREATE SERVER ref FOREIGN DATA WRAPPER csv;CREATE SCHEMA r SERVER ref;SET SCHEMA r;CREATE FOREIGN TABLE price (item integer, cents long) OPTIONS (NAMEINSOURCE 'cust');";
 
 const NO_TEXT: &[u8] =
     b"CREATE SERVER \"\xff\" FOREIGN DATA WRAPPER csv;CREATE SCHEMA c SERVER crm;SET SCHEMA c;CREATE FOREIGN TABLE cust (id integer);";
@@ -85,7 +92,8 @@ fn reads_files(rt: HostRuntime) -> Result<(), Fail> {
         connection: "crm=csv:vdb_file_test",
         script: SCRIPT,
     };
-    let table: [(Given, &str); 13] = [
+    let refused = "DEPLOY 42 crm c.cust\n|3";
+    let table: [(Given, &str); 17] = [
         (
             Given { ..whole },
             "COLUMNS id,name\nROW 2,'Bob'\nROW 3,'Bob'\nEND 2\n|0",
@@ -109,28 +117,67 @@ fn reads_files(rt: HostRuntime) -> Result<(), Fail> {
                 table: Some(b"id,name,id\n1,Ann,1\n"),
                 ..whole
             },
-            "FAULT maker\n|4",
+            refused,
         ),
         (
             Given {
-                table: Some(b"id,name\nx,Ann\n"),
+                table: Some(b"id,name\n1,Ann,1\n"),
                 ..whole
             },
-            "FAULT maker\n|4",
+            refused,
+        ),
+        (
+            Given {
+                table: Some(b"id,name\n1,Ann\nx,Bob\n"),
+                ..whole
+            },
+            "DEPLOY 41 crm c.cust 2 1\n|3",
+        ),
+        (
+            Given {
+                ddl: Some(PRICES),
+                table: Some(b"item,cents\n1,100\n2,x\n"),
+                connection: "ref=csv:vdb_file_test",
+                ..whole
+            },
+            "DEPLOY 41 ref r.price 2 2\n|3",
+        ),
+        (
+            Given {
+                ddl: Some(KEYED),
+                table: Some(b"name,id\nAnn,1\nBob,\n"),
+                ..whole
+            },
+            "DEPLOY 41 crm c.cust 2 1\n|3",
+        ),
+        (
+            Given {
+                ddl: Some(KEYED),
+                table: Some(b"id,name\n1,Ann\n1,Bob\n"),
+                ..whole
+            },
+            refused,
         ),
         (
             Given {
                 table: None,
                 ..whole
             },
-            "FAULT maker\n|4",
+            refused,
         ),
         (
             Given {
                 connection: "crm=csv:vdb_file_test/none",
                 ..whole
             },
-            "FAULT maker\n|4",
+            refused,
+        ),
+        (
+            Given {
+                ddl: Some(OUTSIDE),
+                ..whole
+            },
+            refused,
         ),
         (Given { ddl: None, ..whole }, "FAULT maker\n|4"),
         (
@@ -158,17 +205,10 @@ fn reads_files(rt: HostRuntime) -> Result<(), Fail> {
         (
             Given {
                 ddl: Some(SHARED),
-                script: "SELECT a.number, b.name FROM c.again a JOIN c.cust b ON a.number = b.id WHERE b.id = 1;",
+                script: "SELECT a.called, a.other, b.name FROM c.again a JOIN c.cust b ON a.number = b.id WHERE b.id = 1;",
                 ..whole
             },
-            "COLUMNS number,name\nROW 1,'Ann'\nEND 1\n|0",
-        ),
-        (
-            Given {
-                ddl: Some(TORN),
-                ..whole
-            },
-            "FAULT maker\n|4",
+            "COLUMNS called,other,name\nROW 'Ann',1,'Ann'\nEND 1\n|0",
         ),
     ];
     for (given, wanted) in table {

@@ -1,73 +1,75 @@
 //! The maker of the program: it reads the DDL and the CSV files of its tables.
 
-ghost use Rattle.std.specs.Prelude.{◌≡◌, true, IfOk};
-ghost use Rattle.resource.specs.Plain.{is_plain};
+ghost use Rattle.std.specs.Prelude.{◌≡◌, true, false, IfOk};
+ghost use Rattle.csv_folder.specs.CsvFolder.{folder_told};
 ghost use Rattle.resource.specs.Lanes.{labels_of};
+ghost use Rattle.resource.specs.Told.{is_lost};
 ghost use Rattle.vdb.specs.Making.{labels};
+ghost use Rattle.vdb_session.specs.Lanes.{are_here};
 
-use crate::csv_table::{FileFault, read_rows};
 use crate::maker::{MakeFault, Maker};
 use crate::words::{Conn, Setup};
+use csv_folder::{CsvFolder, File, csv_caps};
 use metadata::{ConnInfo, ConnInfos, DeployRefusal, deploy};
-use resource::{Lane, Lanes, MemResource, StoredTable, Tables};
+use resource::{Lane, Lanes};
 use sql_reader::read::ReadFault;
 use std::alloc::Global;
 use std::fs::{self, Files};
-use std::io::{self, ErrorKind};
-use vdb_base::{Calls, Seq, Text};
+use std::io::{self, ErrorKind, Read};
+use vdb_base::{Bytes, Calls, NoMemory, Seq, Text};
 use vdb_ddl::read_ddl;
 use vdb_ddl::tree::Items;
-use vdb_model::{Caps, Catalog, ColumnDef, TableDef};
+use vdb_model::{Catalog, TableDef};
 use vdb_session::{Parts, serves};
 
-/// The most bytes that a CSV file may have.
-const FILE_LIMIT: usize = 67_108_864;
+/// One byte more than a CSV file may have: of a longer one no more is read, and its table refuses it.
+const MOST_READ: u64 = 67_108_865;
 
-/// What a store in memory can do: nothing but whole columns, of numbers of any size.
-fn plain_caps() -> Caps
-    ensures { is_plain result ≡ true }
-{
-    Caps {
-        equals: false,
-        ordered: false,
-        in_max: 0,
-        is_null: false,
-        like: false,
-        or: false,
-        not: false,
-        joins: false,
-        distinct: false,
-        order: false,
-        limit: false,
-        count_star: false,
-        wide: true,
-        writes: false,
+/// Why a file gives no bytes.
+#[derive(Clone, Copy, Debug, PartialEq, Eq)]
+enum FileFault {
+    /// It is there, and can't be read.
+    Refused,
+    /// There is none of the name.
+    Missing,
+    Memory,
+}
+
+impl From<NoMemory> for FileFault {
+    fn from(_error: NoMemory) -> FileFault {
+        FileFault::Memory
     }
 }
 
 fn fault_of(error: &io::Error) -> FileFault {
     match error.kind() {
         ErrorKind::OutOfMemory => FileFault::Memory,
+        ErrorKind::NotFound => FileFault::Missing,
         _ => FileFault::Refused,
     }
 }
 
-/// All bytes of a file.
-fn read_file<R: Files + AllocGlobal>(rt: &R, path: &str) -> Result<Vec<u8>, FileFault> {
-    match fs::read(rt, path) {
-        Ok(bytes) => Ok(bytes),
+/// All bytes of a file, or as many as are allowed.
+fn read_file<R: Files + AllocGlobal>(rt: &R, path: &str, most: u64) -> Result<Bytes, FileFault> {
+    let file = match fs::open(rt, path) {
+        Ok(file) => file,
+        Err(error) => return Err(fault_of(&error)),
+    };
+    let mut bytes = Vec::new(rt.alloc());
+    match file.take(most).read_to_end(&mut bytes) {
+        Ok(_) => Ok(Seq::from_vec(bytes)),
         Err(error) => Err(fault_of(&error)),
     }
 }
 
-/// The connections as a deployment sees them, whose stores are in memory.
+/// The connections as a deployment sees them, whose stores are folders of CSV files.
 fn infos_of(alloc: Global, conns: &[Conn]) -> Result<ConnInfos, FileFault> {
     let mut infos = Seq::new(alloc);
     for conn in conns {
         infos.push(ConnInfo {
             name: conn.name.copy(alloc)?,
             kind: conn.kind,
-            caps: plain_caps(),
+            caps: csv_caps(),
         })?;
     }
     Ok(infos)
@@ -92,96 +94,78 @@ fn catalog_of(alloc: Global, ddl: &[u8], conns: &[Conn]) -> Result<Catalog, File
     }
 }
 
-/// Whether the columns in turn have the same names at their source, in any case, and the same types.
-fn are_same_columns(columns: &[ColumnDef], others: &[ColumnDef]) -> bool {
-    if columns.len() != others.len() {
-        return false;
-    }
-    for (column, other) in columns.iter().zip(others) {
-        let source = column.source.as_str();
-        if !source.eq_ignore_ascii_case(other.source.as_str()) || column.ty != other.ty {
-            return false;
-        }
-    }
-    true
+/// The name of a table's file in its folder: `SOURCE.csv`.
+fn name_of(alloc: Global, source: &Text) -> Result<Text, FileFault> {
+    let mut name = source.copy(alloc)?;
+    name.push_str(".csv")?;
+    Ok(name)
 }
 
-/// Whether a table before this one has its file, which is then read once for both.
-///
-/// What is stored has one width and one order of columns, so tables of one file have to have the same columns there.
-fn is_stored(tables: &[TableDef], table: &TableDef) -> Result<bool, FileFault> {
-    for other in tables {
-        if other.number < table.number
-            && other.server == table.server
-            && other.source == table.source
-        {
-            if are_same_columns(other.columns.as_slice(), table.columns.as_slice()) {
-                return Ok(true);
-            }
-            return Err(FileFault::Refused);
-        }
-    }
-    Ok(false)
-}
-
-/// The path of a table's file: `FOLDER/SOURCE.csv`. A source name with `/` in it has none.
-fn path_of(alloc: Global, folder: &Text, source: &Text) -> Result<Text, FileFault> {
-    if source.as_str().contains('/') {
-        return Err(FileFault::Refused);
-    }
+/// The path of a file in the folder.
+fn path_of(alloc: Global, folder: &Text, name: &Text) -> Result<Text, FileFault> {
     let mut path = folder.copy(alloc)?;
     path.push_str("/")?;
-    path.push_str(source.as_str())?;
-    path.push_str(".csv")?;
+    path.push_str(name.as_str())?;
     Ok(path)
 }
 
+/// Whether a table of the server before this one has its file, which is then read once for both.
+fn is_read(tables: &[TableDef], table: &TableDef) -> bool {
+    tables.iter().any(|other| {
+        other.number < table.number && other.server == table.server && other.source == table.source
+    })
+}
+
+/// A table's file where the folder has it. A source name with `/` in it has none, so that a folder is never left.
 fn read_table<R: Files + AllocGlobal>(
     rt: &R,
     folder: &Text,
     table: &TableDef,
-) -> Result<StoredTable, FileFault> {
-    let alloc = rt.alloc();
-    let path = path_of(alloc, folder, &table.source)?;
-    let bytes = read_file(rt, path.as_str())?;
-    if FILE_LIMIT < bytes.len() {
-        return Err(FileFault::Refused);
+) -> Result<Option<File>, FileFault> {
+    if table.source.as_str().contains('/') {
+        return Ok(None);
     }
-    Ok(StoredTable {
-        source: table.source.copy(alloc)?,
-        rows: read_rows(alloc, bytes.as_slice(), table.columns.as_slice())?,
-    })
+    let alloc = rt.alloc();
+    let name = name_of(alloc, &table.source)?;
+    let path = path_of(alloc, folder, &name)?;
+    match read_file(rt, path.as_str(), MOST_READ) {
+        Ok(bytes) => Ok(Some(File { name, bytes })),
+        Err(FileFault::Missing) => Ok(None),
+        Err(fault) => Err(fault),
+    }
 }
 
-/// The tables of the server that the connection serves, over the files of its folder.
+/// The files of the connection's folder that its server's tables are in.
 fn read_tables<R: Files + AllocGlobal>(
     rt: &R,
     conn: &Conn,
     catalog: &Catalog,
-) -> Result<Tables, FileFault> {
-    let mut stored = Seq::new(rt.alloc());
+) -> Result<csv_folder::Files, FileFault> {
+    let mut files = Seq::new(rt.alloc());
     let tables = catalog.tables().as_slice();
     for table in tables {
-        if serves(catalog, table.server, &conn.name) && !is_stored(tables, table)? {
-            stored.push(read_table(rt, &conn.path, table)?)?;
+        if serves(catalog, table.server, &conn.name) && !is_read(tables, table) {
+            if let Some(file) = read_table(rt, &conn.path, table)? {
+                files.push(file)?;
+            }
         }
     }
-    Ok(stored)
+    Ok(files)
 }
 
 fn make_lane<R: Files + AllocGlobal>(
     rt: &R,
     conn: &Conn,
     catalog: &Catalog,
-) -> Result<Lane<MemResource>, FileFault>
+) -> Result<Lane<CsvFolder>, FileFault>
     ensures name { IfOk result (λ lane. lane.name ≡ conn.now.name) }
     ensures kind { IfOk result (λ lane. lane.kind ≡ conn.now.kind) }
+    ensures here { IfOk result (λ lane. is_lost (folder_told lane.res).state ≡ false) }
 {
     let alloc = rt.alloc();
     let name = conn.name.copy(alloc)?;
-    let tables = read_tables(rt, conn, catalog)?;
-    let store = MemResource::new(alloc, tables, plain_caps(), Seq::new(alloc));
-    Ok(Lane::new(name, conn.kind, store))
+    let files = read_tables(rt, conn, catalog)?;
+    Ok(Lane::new(name, conn.kind, CsvFolder::new(alloc, files)))
 }
 
 /// A lane for each connection, over what is defined.
@@ -189,8 +173,9 @@ fn make_lanes<R: Files + AllocGlobal>(
     rt: &R,
     conns: &[Conn],
     catalog: &Catalog,
-) -> Result<Lanes<MemResource>, FileFault>
-    ensures { IfOk result (λ lanes. labels_of lanes ≡ labels conns.now) }
+) -> Result<Lanes<CsvFolder>, FileFault>
+    ensures labels { IfOk result (λ lanes. labels_of lanes ≡ labels conns.now) }
+    ensures here { IfOk result (λ lanes. are_here folder_told lanes ≡ true) }
 {
     let mut lanes = Vec::new(rt.alloc());
     for conn in conns {
@@ -206,31 +191,26 @@ fn lanes_of<R: Files + AllocGlobal>(
     rt: &R,
     conns: &[Conn],
     ddl: &[u8],
-) -> Result<Lanes<MemResource>, FileFault>
-    ensures { IfOk result (λ lanes. labels_of lanes ≡ labels conns.now) }
+) -> Result<Lanes<CsvFolder>, FileFault>
+    ensures labels { IfOk result (λ lanes. labels_of lanes ≡ labels conns.now) }
+    ensures here { IfOk result (λ lanes. are_here folder_told lanes ≡ true) }
 {
     let catalog = catalog_of(rt.alloc(), ddl, conns)?;
     make_lanes(rt, conns, &catalog)
 }
 
-fn make_parts<R: Files + AllocGlobal>(
-    rt: &R,
-    setup: &Setup,
-) -> Result<Parts<MemResource>, FileFault>
-    ensures { IfOk result (λ parts. labels_of parts.lanes ≡ labels setup.now.conns) }
+fn make_parts<R: Files + AllocGlobal>(rt: &R, setup: &Setup) -> Result<Parts<CsvFolder>, FileFault>
+    ensures labels { IfOk result (λ parts. labels_of parts.lanes ≡ labels setup.now.conns) }
+    ensures here { IfOk result (λ parts. are_here folder_told parts.lanes ≡ true) }
 {
-    let ddl = read_file(rt, setup.vdb.as_str())?;
+    let ddl = read_file(rt, setup.vdb.as_str(), u64::MAX)?;
     let lanes = lanes_of(rt, setup.conns.as_slice(), ddl.as_slice())?;
-    Ok(Parts {
-        ddl: Seq::from_vec(ddl),
-        lanes,
-    })
+    Ok(Parts { ddl, lanes })
 }
 
-/// Makes lanes of stores in memory that are filled from files.
+/// Makes lanes of folders of CSV files, whose files it reads.
 ///
-/// A file that can't be read, or that breaks a rule, is a fault of the maker; so is a second table of a file that hasn't
-/// the columns of the first.
+/// A DDL or a file that is there and can't be read is a fault of the maker. What a file says is for its table to refuse.
 #[derive(Drop)]
 pub struct FileMaker<'a, R> {
     rt: &'a R,
@@ -250,22 +230,22 @@ impl<'a, R: Files + AllocGlobal> Maker for FileMaker<'a, R> {
     ghost use Rattle.std.specs.Prelude.{None};
     ghost use Rattle.vdb.specs.Making.{Keeps};
 
-    type S = MemResource;
+    type S = CsvFolder;
 
     ghost told = { λ m. record { held = None; faults = m.calls.faults } };
 
-    fn make(&mut self, setup: &Setup) -> Result<Parts<MemResource>, MakeFault> {
+    fn make(&mut self, setup: &Setup) -> Result<Parts<CsvFolder>, MakeFault> {
         match make_parts(self.rt, setup) {
             Ok(parts) => Ok(parts),
             Err(FileFault::Memory) => Err(MakeFault::Memory),
-            Err(FileFault::Refused) => {
+            Err(FileFault::Missing | FileFault::Refused) => {
                 self.calls.fail();
                 Err(MakeFault::Failed)
             }
         }
     }
 
-    fn keep(&mut self, _parts: Parts<MemResource>)
+    fn keep(&mut self, _parts: Parts<CsvFolder>)
         ensures { Keeps (record { held = None; faults = self.old.calls.faults }) (record { held = None; faults = self.new.calls.faults }) _parts }
     {}
 }

@@ -5,11 +5,10 @@
 //! what each status tells, and what is answered where nothing is wanting. It makes the parts of the run by its `Maker`, over
 //! any number of lanes; `session` starts the engine of `vdb_session` over them and reads the script, which `answering` cuts
 //! into statements, each answered and its reply printed in turn. `ending` and `last_line` are the last line and the status.
-//! `files` is the maker of the real program: its stores are read from CSV files, as the DDL names them.
+//! `files` is the maker of the real program: its stores are folders of CSV files, of which it reads those of the DDL's tables.
 #![tactic(auto)]
 
 mod answering;
-mod csv_table;
 mod ending;
 #[cfg(test)]
 mod file_tests;

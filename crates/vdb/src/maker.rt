@@ -1,12 +1,13 @@
 //! Makers of parts.
 
-ghost use Rattle.std.specs.Prelude.{◌≡◌, true, false, Some, IsSome};
+ghost use Rattle.std.specs.Prelude.{◌≡◌, ◌&&◌, true, false, not, Some, IsSome};
 ghost use Rattle.vdb_base.specs.Calls.{uncalled};
 ghost use Rattle.resource.specs.Lanes.{labels_of};
+ghost use Rattle.resource.specs.Told.{is_lost};
 ghost use Rattle.vdb.specs.Making.{labels};
 
 use crate::words::{Conn, Setup};
-use resource::{Lane, Resource};
+use resource::{Lane, ResState, Resource};
 use vdb_base::{Calls, Nums};
 use vdb_session::Parts;
 
@@ -19,7 +20,7 @@ pub enum MakeFault {
 
 /// Makes the parts of a run, and takes them back after it.
 ///
-/// A make that was refused leaves what is held. `keep` can't be refused.
+/// A make that is Ok hands out lanes of which none is lost. One that was refused leaves what is held. `keep` can't be refused.
 pub trait Maker {
     ghost use Rattle.vdb.specs.Making.{MakerTold, Makes, Keeps};
 
@@ -29,14 +30,14 @@ pub trait Maker {
     ghost told: { Self → MakerTold Self.S };
 
     fn make(&mut self, setup: &Setup) -> Result<Parts<Self::S>, MakeFault>
-        ensures { Makes setup.now (told self.old) (told self.new) result };
+        ensures { Makes Self.S.told setup.now (told self.old) (told self.new) result };
 
     fn keep(&mut self, parts: Parts<Self::S>)
         ensures { Keeps (told self.old) (told self.new) parts };
 }
 
-/// Parts that are ready. Its k-th make, from 1, fails where `fails` lists k, where no parts are held, and where the lanes'
-/// names and kinds aren't those of the connections in turn.
+/// Parts that are ready. Its k-th make, from 1, fails where `fails` lists k, where no parts are held, where the lanes' names
+/// and kinds aren't those of the connections in turn, and where a lane is lost.
 #[derive(Drop)]
 pub struct ReadyMaker<S> {
     parts: Option<Parts<S>>,
@@ -71,6 +72,13 @@ fn are_labelled<S>(lanes: &[Lane<S>], conns: &[Conn]) -> bool
     others.is_empty()
 }
 
+/// Whether none was lost so far, and this one isn't.
+fn is_still_here(here: bool, state: ResState) -> bool
+    ensures { result ≡ (here && not (is_lost state)) }
+{
+    here && !matches!(state, ResState::Lost)
+}
+
 impl<S> ReadyMaker<S> {
     ghost use Rattle.vdb.specs.ReadyMaker.{held_of, calls_of};
 
@@ -102,14 +110,19 @@ impl<T: Resource> Maker for ReadyMaker<T> {
 
     ghost told = { ready_told };
 
+    #[tactic(auto, using(crate::proofs::LostLanes::lanes_more))]
     fn make(&mut self, setup: &Setup) -> Result<Parts<T>, MakeFault>
-        ensures makes { Makes setup.now (ready_told self.old) (ready_told self.new) result }
-        ensures by_list { MakesByList setup.now self.old self.new result }
+        ensures makes { Makes T.told setup.now (ready_told self.old) (ready_told self.new) result }
+        ensures by_list { MakesByList T.told setup.now self.old self.new result }
     {
         let listed = self.calls.begin();
         match self.parts.take() {
             Some(parts) => {
-                if !listed && are_labelled(parts.lanes.as_slice(), setup.conns.as_slice()) {
+                let mut here = true;
+                for lane in parts.lanes.as_slice() {
+                    here = is_still_here(here, lane.res.state());
+                }
+                if !listed && here && are_labelled(parts.lanes.as_slice(), setup.conns.as_slice()) {
                     return Ok(parts);
                 }
                 self.parts = Some(parts);

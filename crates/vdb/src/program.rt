@@ -26,7 +26,7 @@ fn run_setup<M: Maker, I: Feed, O: Sink>(
     out: &mut O,
 ) -> Ending
     requires apart { IsTrue (are_apart (conn_names setup.now.conns)) }
-    ensures { IsRun M.S.told setup.now (M.told maker.old) (M.told maker.new) (I.told script.old) (I.told script.new) (O.told out.old) (O.told out.new) result }
+    ensures { IsRun M.S.told M.S.images setup.now (M.told maker.old) (M.told maker.new) (I.told script.old) (I.told script.new) (O.told out.old) (O.told out.new) result }
 {
     let parts = match maker.make(setup) {
         Ok(parts) => parts,
@@ -66,7 +66,7 @@ pub fn program<R: Threads + Sync, M: Maker, I: Feed, O: Sink>(
     script: &mut I,
     out: &mut O,
 ) -> u8
-    ensures headline { Headline M.S.told (map string_bytes words.now.items) (M.told maker.old) (M.told maker.new) (I.told script.old) (I.told script.new) (O.told out.old) (O.told out.new) result }
+    ensures headline { Headline M.S.told M.S.images (map string_bytes words.now.items) (M.told maker.old) (M.told maker.new) (I.told script.old) (I.told script.new) (O.told out.old) (O.told out.new) result }
     ensures causes { Causes M.S.told (map string_bytes words.now.items) (M.told maker.old) (M.told maker.new) (I.told script.old) (I.told script.new) (O.told out.old) (O.told out.new) result }
     ensures complete { Complete M.S.told (map string_bytes words.now.items) (M.told maker.old) (I.told script.old) (I.told script.new) (O.told out.old) (O.told out.new) result }
 {

@@ -1,7 +1,7 @@
 //! A run over parts that were made.
 
 ghost use Rattle.std.specs.Prelude.{IsTrue};
-ghost use Rattle.vdb_session.specs.Lanes.{are_apart, names_of};
+ghost use Rattle.vdb_session.specs.Lanes.{are_apart, are_here, names_of};
 ghost use Rattle.vdb.specs.Session.{pieces_read, IsScriptRun, IsSession};
 ghost use Rattle.vdb.specs.Answering.{IsAnswered};
 
@@ -64,7 +64,8 @@ pub fn run_parts<S: Resource, I: Feed, O: Sink>(
     out: &mut O,
 ) -> Ran<S>
     requires apart { IsTrue (are_apart (names_of parts.lanes)) }
-    ensures { IsSession S.told parts result.parts (I.told script.old) (I.told script.new) (O.told out.old) (O.told out.new) result.ending }
+    requires here { IsTrue (are_here S.told parts.lanes) }
+    ensures { IsSession S.told S.images parts result.parts (I.told script.old) (I.told script.new) (O.told out.old) (O.told out.new) result.ending }
 {
     let mut engine = match Engine::start(parts, alloc) {
         Ok(engine) => engine,

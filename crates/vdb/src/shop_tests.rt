@@ -1,7 +1,8 @@
 //! What no clause says: what an engine over three stores replies, printed.
 
 ghost use Rattle.std.specs.Prelude.{IsTrue, IfOk};
-ghost use Rattle.vdb_session.specs.Lanes.{are_apart, names_of};
+ghost use Rattle.resource.specs.MemResource.{mem_told};
+ghost use Rattle.vdb_session.specs.Lanes.{are_apart, are_here, names_of};
 
 use crate::program_tests::{Cell, PLAIN, row, seq};
 use resource::{Lane, Lanes, MemResource, StoredTable, Tables};
@@ -10,7 +11,7 @@ use std::test::Fail;
 use vdb_base::{MemSink, NoMemory, Seq, Text};
 use vdb_lines::print_deploy;
 use vdb_model::{Kind, Reply};
-use vdb_session::{Answer, Engine, Parts, StartFault, are_apart, print_reply};
+use vdb_session::{Answer, Engine, Parts, StartFault, are_apart, are_here, print_reply};
 
 /// Customers, orders and a price list on three servers, with views over them.
 const SHOP: &str = "CREATE DATABASE shop; USE DATABASE shop;
@@ -153,7 +154,8 @@ fn lane(
 
 /// The shop's three lanes; the calls of the orders' fail where they are listed.
 fn shop(alloc: Global, ddl: &str, fails: &[u32]) -> Result<Parts<MemResource>, Fail>
-    ensures { IfOk result (λ parts. IsTrue (are_apart (names_of parts.lanes))) }
+    ensures apart { IfOk result (λ parts. IsTrue (are_apart (names_of parts.lanes))) }
+    ensures here { IfOk result (λ parts. IsTrue (are_here mem_told parts.lanes)) }
 {
     let customers = one_table(alloc, "cust", CUST.as_slice())?;
     let orders = one_table(alloc, "orders", ORDERS.as_slice())?;
@@ -165,6 +167,9 @@ fn shop(alloc: Global, ddl: &str, fails: &[u32]) -> Result<Parts<MemResource>, F
     let lanes = Lanes::from_vec(lanes);
     if !are_apart(&lanes) {
         return Err("two lanes have one name".into());
+    }
+    if !are_here(&lanes) {
+        return Err("a lane is lost".into());
     }
     Ok(Parts {
         ddl: seq(alloc, ddl.as_bytes())?,

@@ -10,4 +10,5 @@ pub mod CanRules
 pub mod Rearranged
 pub mod SameRows
 pub mod SameDistinct
+mod Laid
 mod Worked

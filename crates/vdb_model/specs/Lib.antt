@@ -29,3 +29,4 @@ pub mod Chains
 pub mod Columns
 pub mod WellFormed
 pub mod Deltas
+pub mod XaForm

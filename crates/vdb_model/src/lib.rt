@@ -4,7 +4,8 @@
 //! a relation in a world, arranged rows, which source queries a source can answer and what it may answer, the lines of
 //! replies and refusals, and which catalogs are well formed. The types are those of trees whose names are resolved; each list
 //! of them can be copied, and a copy equals its original. `Caps::can` is the test of capabilities, and `typed_is_exact` the
-//! law that on typed expressions every number stays within 128 bits. A `Catalog` keeps that it is well formed.
+//! law that on typed expressions every number stays within 128 bits. A `Catalog` keeps that it is well formed. `xid_bytes` lays
+//! out a branch's identifier as X/Open XA has it.
 //!
 //! Every crate from `rel_eval` and `view_stack` up stands on this one.
 #![tactic(auto)]
@@ -27,6 +28,7 @@ mod source;
 mod table;
 mod typed;
 mod typed_copy;
+mod xid;
 
 pub use bag::{Bag, Bags};
 pub use catalog::{
@@ -42,3 +44,4 @@ pub use reply::{DeployFault, Phase, Refusal, Replies, Reply, Who};
 pub use source::{Caps, Delta, Deltas, QueryLists, SourceQueries, SourceQuery, Xid};
 pub use table::{ColumnDef, ColumnDefs, Kind, NumLists, TableDef, TableDefs};
 pub use typed::{Target, Typed, TypedBlock, TypedStmt, TypedStmts, VarDef, VarDefs};
+pub use xid::{XidBytes, xid_bytes};

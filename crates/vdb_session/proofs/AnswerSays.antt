@@ -11,7 +11,8 @@ use Rattle.vdb_model.specs.Stacked.{names_first}
 use Rattle.vdb_model.specs.World.{rows_in}
 use Rattle.walk_laws.specs.Closed.{StatementsAreClosed}
 use Rattle.resource.specs.declared.lane.Lane.{Lane}
-use Rattle.resource.specs.Told.{Told, unasked}
+use Rattle.resource.specs.Leaves.{unasked}
+use Rattle.resource.specs.Told.{Told}
 use Rattle.vdb_session.specs.declared.answering.Answer.{Answer}
 use Rattle.vdb_session.specs.declared.answering.Answer.TheVariants as answer
 use Rattle.vdb_session.specs.declared.fetching.FetchFault.{FetchFault}

@@ -21,13 +21,14 @@ use Rattle.metadata.proofs.WellTables.{fails}
 use Rattle.catalog_laws.specs.Over.{IsConnected, HasNoPatterns, IsOver, DeployedIsOver}
 use Rattle.catalog_laws.proofs.LoweredCaps.{lowered_writes}
 use Rattle.resource.specs.declared.lane.Lane.{Lane}
-use Rattle.resource.specs.Told.{Told}
-use Rattle.vdb_session.specs.Attaching.{TakesTables, attaching}
-use Rattle.vdb_session.specs.Lanes.{names_of, are_apart}
+use Rattle.resource.specs.Images.{Image}
+use Rattle.resource.specs.Told.{Told, is_lost}
+use Rattle.vdb_session.specs.Attaching.{TakesTables}
+use Rattle.vdb_session.specs.Lanes.{names_of, are_apart, are_here}
 use Rattle.vdb_session.specs.Shown.{server_from, tables_of_server}
 use Rattle.vdb_session.specs.Starting.{connection, Deploys}
-use Rattle.vdb_session.proofs.AttachedLanes.{AttachedTo}
-use Rattle.vdb_session.proofs.Stepped.{Stepped-here, Stepped-length}
+use Rattle.vdb_session.proofs.AttachedLanes.{AttachedUpTo}
+use Rattle.vdb_session.proofs.Standing.{standing_here, standing_length}
 
 -- whether tables are fit goes by the capability to write alone
 
@@ -84,25 +85,33 @@ found_by_name told (lane ∷ lanes) apart (suc at) o there =
     let other : same_name lane.name found.name ≡ false = unnamed_at lane.name lanes at o (fails (list_any (same_name lane.name) (names_of lanes)) c.0) here in
     ap (λ (b : Bool). if b then Some (connection told lane) else connection_named (map (connection told) lanes) found.name) other ∙ found_by_name told lanes c.1 at o here
 
+-- of lanes none of which is lost each isn't
+
+here_at : {S : Type 0} (told : S → Told) (lanes : List (Lane S)) → are_here told lanes ≡ true → (at : ℕ) (o : Lane S) → at < length lanes → is_lost (told (slice_index_or lanes at o).res).state ≡ false
+here_at told [] here at o there = absurd (omega arith)
+here_at told (lane ∷ lanes) here zero o there = fails (is_lost (told lane.res).state) (both (not (is_lost (told lane.res).state)) (are_here told lanes) here).0
+here_at told (lane ∷ lanes) here (suc at) o there = here_at told lanes (both (not (is_lost (told lane.res).state)) (are_here told lanes) here).1 at o (omega arith)
+
 -- what is deployed over lanes whose names differ
 
 of_lanes : {S : Type 0} (told : S → Told) (ddl : List ℕ) (lanes : List (Lane S)) (cat : Defined) → DeployedIsOver → Deploys told ddl lanes cat → IsOver (map (connection told) lanes) cat
 of_lanes told ddl lanes cat law deploys = law query_walk (map (connection told) lanes) deploys.items cat deploys.deploys
 
--- each lane's store takes the tables of its server
-pub lanes_take : {S : Type 0} (told : S → Told) (ddl : List ℕ) (lanes : List (Lane S)) (cat : Defined) → DeployedIsOver → are_apart (names_of lanes) ≡ true → IsWellFormed cat → Deploys told ddl lanes cat
-    → All (TakesTables told cat) lanes
-lanes_take told ddl lanes cat law apart well deploys = λ at o there.
+-- each lane may be attached to the tables of its server
+pub lanes_take : {S : Type 0} (told : S → Told) (ddl : List ℕ) (lanes : List (Lane S)) (cat : Defined) → DeployedIsOver → are_apart (names_of lanes) ≡ true → are_here told lanes ≡ true → IsWellFormed cat
+    → Deploys told ddl lanes cat → All (TakesTables told cat) lanes
+lanes_take told ddl lanes cat law apart here well deploys = λ at o there.
     let lane = slice_index_or lanes at o in
     let over = of_lanes told ddl lanes cat law deploys in
-    servers_fit (map (connection told) lanes) (connection told lane) lane.name (found_by_name told lanes apart at o there) cat.tables 0 cat.servers over.servers well.fit
+    record {
+      fit = servers_fit (map (connection told) lanes) (connection told lane) lane.name (found_by_name told lanes apart at o there) cat.tables 0 cat.servers over.servers well.fit;
+      here = here_at told lanes here at o there;
+    }
 
 pub no_patterns : {S : Type 0} (told : S → Told) (ddl : List ℕ) (lanes : List (Lane S)) (cat : Defined) → DeployedIsOver → Deploys told ddl lanes cat → HasNoPatterns cat
 no_patterns told ddl lanes cat law deploys = (of_lanes told ddl lanes cat law deploys).patterns
 
 -- the lane that comes next is as it was
-pub take_here : {S : Type 0} (told : S → Told) (cat : Defined) (at : ℕ) (old now : List (Lane S)) (o : Lane S) → at < length now → AttachedTo told cat at old now → All (TakesTables told cat) old
+pub take_here : {S : Type 0} (told : S → Told) (images : S → Image → Type 0) (cat : Defined) (at : ℕ) (old now : List (Lane S)) (o : Lane S) → at < length now → AttachedUpTo told images cat at old now → All (TakesTables told cat) old
     → TakesTables told cat (slice_index_or now at o)
-take_here told cat at old now o h s take =
-    let f = λ (lane : Lane _). told lane.res in
-    subst (TakesTables told cat) (sym (Stepped-here f (attaching told cat) at now old o h s.steps)) (take at o (Stepped-length f (attaching told cat) at now old h s.steps))
+take_here told images cat at old now o h s take = subst (TakesTables told cat) (sym (standing_here at now old o h s.rest)) (take at o (standing_length at now old h s.rest))

@@ -6,8 +6,9 @@ pub mod WholeTables
 pub mod FetchedRows
 pub mod FetchedTables
 pub mod SameWorlds
-pub mod Stepped
+pub mod Standing
 pub mod AttachedLanes
+pub mod RolledBack
 pub mod AnswerSays
 pub mod FitLanes
 pub mod StartSays

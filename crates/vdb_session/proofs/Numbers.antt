@@ -1,6 +1,6 @@
 -- Numbers in turn.
 use Rattle.std.proofs.Common.{◌≡◌, ℕ, zero, suc, ◌+◌, [], ◌∷◌, ◌++◌, ap, ◌∙◌, arith}
-use Rattle.vdb_session.specs.Shown.{numbers}
+use Rattle.vdb_session.specs.Fetching.{numbers}
 
 more_from : (from n : ℕ) → numbers from (suc n) ≡ numbers from n ++ (from + n) ∷ []
 more_from from zero = let e : from ≡ from + 0 = omega arith in ap (λ k. k ∷ []) e

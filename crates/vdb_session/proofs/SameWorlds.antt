@@ -8,7 +8,7 @@ use Rattle.vdb_model.specs.Defined.{Defined}
 use Rattle.vdb_model.specs.Rows.{Cells}
 use Rattle.resource.specs.declared.lane.Lane.{Lane}
 use Rattle.resource.specs.Lanes.{told_of, labels_of, counts_of}
-use Rattle.resource.specs.Told.{Told}
+use Rattle.resource.specs.Told.{Told, work}
 use Rattle.vdb_session.specs.Lanes.{AreAsked, attached}
 use Rattle.vdb_session.specs.Shown.{serves, server_shows, rows_of_table, with_rows, rows_of_tables, world_by, sees}
 use Rattle.vdb_session.proofs.ServedLanes.{head_same, tail_same}
@@ -47,7 +47,7 @@ sees_same told (o ∷ os) [] e = cc
 sees_same told (o ∷ os) (n ∷ ns) e =
     let here : attached (told n.res) ≡ attached (told o.res) = head_same (attached (told n.res)) (attached (told o.res)) (map attached (told_of told ns)) (map attached (told_of told os)) e in
     let rest : map attached (told_of told ns) ≡ map attached (told_of told os) = tail_same (attached (told n.res)) (attached (told o.res)) (map attached (told_of told ns)) (map attached (told_of told os)) e in
-    let shown : sees told n ≡ sees told o = ap (λ (t : Told). t.work) here in
+    let shown : sees told n ≡ sees told o = ap work here in
     ap (λ x. x ∷ map (sees told) ns) shown ∙ ap (λ xs. sees told o ∷ xs) (sees_same told os ns rest)
 
 -- lanes that were asked show the world that they showed before

@@ -6,8 +6,8 @@ use Rattle.vdb_model.specs.Defined.{Defined}
 use Rattle.vdb_model.specs.Rows.{Cells}
 use Rattle.resource.specs.declared.lane.Lane.{Lane}
 use Rattle.resource.specs.Lanes.{told_of, labels_of}
-use Rattle.resource.specs.Told.{Told}
-use Rattle.vdb_session.specs.Fetching.{AreAttached}
+use Rattle.resource.specs.Told.{Told, work}
+use Rattle.vdb_session.specs.Fetching.{IsAttached, AreAttached}
 use Rattle.vdb_session.specs.Lanes.{AreAsked, attached}
 use Rattle.vdb_session.specs.Shown.{serves, lane_from, server_shows, sees, tables_for}
 
@@ -98,7 +98,7 @@ shows_on told cat server (o ∷ os) (n ∷ ns) l k =
     let here : attached (told n.res) ≡ attached (told o.res) = head_same (attached (told n.res)) (attached (told o.res)) (map attached (told_of told ns)) (map attached (told_of told os)) k in
     let kept : map attached (told_of told ns) ≡ map attached (told_of told os) = tail_same (attached (told n.res)) (attached (told o.res)) (map attached (told_of told ns)) (map attached (told_of told os)) k in
     if_same (serves cat server n.name) (serves cat server o.name) (sees told n) (sees told o) (server_shows (sees told) cat ns server) (server_shows (sees told) cat os server)
-    (ap (serves cat server) name) (ap (λ (t : Told). t.work) here) (shows_on told cat server os ns labels kept)
+    (ap (serves cat server) name) (ap work here) (shows_on told cat server os ns labels kept)
 
 pub shows_stay : {S : Type 0} (told : S → Told) (failed : Option ℕ) (cat : Defined) (server : ℕ) (old new : List (Lane S)) → AreAsked told failed old new
     → server_shows (sees told) cat new server ≡ server_shows (sees told) cat old server
@@ -107,15 +107,21 @@ shows_stay told failed cat server old new a = shows_on told cat server old new a
 -- and so do the definitions that they are attached to
 attached_on : {S : Type 0} (told : S → Told) (cat : Defined) (old new : List (Lane S)) → labels_of new ≡ labels_of old
     → map attached (told_of told new) ≡ map attached (told_of told old) → AreAttached told cat old → AreAttached told cat new
-attached_on told cat old [] l k h = All-nil (λ lane. (told lane.res).defs ≡ Some (tables_for cat lane.name))
+attached_on told cat old [] l k h = All-nil (IsAttached told cat)
 attached_on told cat [] (n ∷ ns) l k h = cc
 attached_on told cat (o ∷ os) (n ∷ ns) l k h =
-    let P = λ (lane : Lane _). (told lane.res).defs ≡ Some (tables_for cat lane.name) in
+    let P = IsAttached told cat in
+    let was : IsAttached told cat o = All-head P o os h in
     let name : n.name ≡ o.name = ap (λ (p : List ℕ × Kind). p.0) (head_same (n.name, n.kind) (o.name, o.kind) (labels_of ns) (labels_of os) l) in
     let labels : labels_of ns ≡ labels_of os = tail_same (n.name, n.kind) (o.name, o.kind) (labels_of ns) (labels_of os) l in
     let here : attached (told n.res) ≡ attached (told o.res) = head_same (attached (told n.res)) (attached (told o.res)) (map attached (told_of told ns)) (map attached (told_of told os)) k in
     let kept : map attached (told_of told ns) ≡ map attached (told_of told os) = tail_same (attached (told n.res)) (attached (told o.res)) (map attached (told_of told ns)) (map attached (told_of told os)) k in
-    All-cons P n ns (ap (λ (t : Told). t.defs) here ∙ All-head P o os h ∙ ap (λ (x : List ℕ). Some (tables_for cat x)) (sym name)) (attached_on told cat os ns labels kept (All-tail P o os h))
+    All-cons P n ns (
+    record {
+      defs = ap (λ (t : Told). t.defs) here ∙ was.defs ∙ ap (λ (x : List ℕ). Some (tables_for cat x)) (sym name);
+      idle = ap (λ (t : Told). t.state) here ∙ was.idle;
+    }
+    ) (attached_on told cat os ns labels kept (All-tail P o os h))
 
 pub attached_stay : {S : Type 0} (told : S → Told) (failed : Option ℕ) (cat : Defined) (old new : List (Lane S)) → AreAsked told failed old new → AreAttached told cat old → AreAttached told cat new
 attached_stay told failed cat old new a h = attached_on told cat old new a.labels a.kept h

@@ -1,33 +1,27 @@
 -- What a start answers and leaves.
-use Rattle.std.proofs.Common.{◌≡◌, ℕ, Bool, false, List, Option, Some, None, Ok, Err, inl, inr, refl, ap, ◌∙◌, subst}
+use Rattle.std.proofs.Common.{◌≡◌, ℕ, Bool, false, List, Option, Some, None, Err, inl, inr, refl, ap, ◌∙◌, subst}
 use Rattle.std.specs.Prelude.{IfSome}
 use Rattle.vdb_model.specs.declared.reply.DeployFault.{DeployFault}
 use Rattle.vdb_model.specs.Defined.{Defined}
 use Rattle.resource.specs.declared.lane.Lane.{Lane}
 use Rattle.resource.specs.declared.resource.AttachFault.{AttachFault}
 use Rattle.resource.specs.declared.resource.AttachFault.TheVariants as attach
+use Rattle.resource.specs.Images.{Image, Fewer}
+use Rattle.resource.specs.Leaves.{Attaches, Fails, detached}
 use Rattle.resource.specs.Reading.{Reading, IsAttachAnswer}
-use Rattle.resource.specs.Told.{Told, Attaches, under}
+use Rattle.resource.specs.Told.{Told}
 use Rattle.vdb_model.specs.declared.table.TableDef.{TableDef}
 use Rattle.vdb_session.specs.declared.parts.StartFault.{StartFault}
 use Rattle.vdb_session.specs.declared.parts.StartFault.TheVariants as fault
 use Rattle.vdb_session.specs.Answer.{IsReady}
-use Rattle.vdb_session.specs.Attaching.{AttachesOne, StayStored, BreaksFirst}
+use Rattle.vdb_session.specs.Attaching.{AttachesOne, BreaksFirst, StaysStored, StayStored}
 use Rattle.vdb_session.specs.Deploying.{DeploysText, StartedOver}
-use Rattle.vdb_session.specs.Lanes.{store}
+use Rattle.vdb_session.specs.Lanes.{FailedStore, store}
 use Rattle.vdb_session.specs.Shown.{tables_for, sees, holds}
 use Rattle.vdb_session.specs.Starting.{cell_fault, failed_lane, refusal_of, Deploys, HasReason, IsStartFault, Started, NotStarted}
 use Rattle.vdb_session.proofs.SameWorlds.{world_same}
 
-same_store : (old new : Told) (defs : List TableDef) (a : AttachFault) → Attaches defs old new (Err a) → store new ≡ store old
-same_store old new defs (attach.BadCell table row col) h = ap store h
-same_store old new defs (attach.BadStore table) h = ap store h
-same_store old new defs attach.Memory h = ap store h
-same_store old new defs attach.Failed h = ap store h.same
-
-sound_reads : (server : List ℕ) (defs : List TableDef) (reads : Option (List TableDef → Reading)) → IfSome reads (λ reads. IsAttachAnswer (reads defs) (Ok tt)) → IfSome reads (λ reads. cell_fault server defs (reads defs) ≡ None)
-sound_reads server defs None h = tt
-sound_reads server defs (Some reads) h = ap (cell_fault server defs) h.1
+-- where a lane's attach was refused
 
 told_fault : (server : List ℕ) (defs : List TableDef) (reads : Option (List TableDef → Reading)) (a : AttachFault) (r : DeployFault)
     → IfSome reads (λ reads. IsAttachAnswer (reads defs) (Err a)) → refusal_of server defs a ≡ Some r → IfSome reads (λ reads. cell_fault server defs (reads defs) ≡ Some r)
@@ -37,41 +31,45 @@ told_fault server defs (Some reads) (attach.BadStore table) r h e = ap (cell_fau
 told_fault server defs (Some reads) attach.Failed r h e = cc
 told_fault server defs (Some reads) attach.Memory r h e = cc
 
--- the lane was attached
-pub attached_one : {S : Type 0} (told : S → Told) (cat : Defined) (at : ℕ) (old : Lane S) (new : Told) (tables : List TableDef) → tables ≡ tables_for cat old.name
-    → IfSome (told old.res).reads (λ reads. IsAttachAnswer (reads tables) (Ok tt)) → new ≡ record (told old.res) { defs = Some tables; work = under (told old.res).reads tables }
-    → AttachesOne told cat at (Ok tt) old new
-attached_one told cat at old new tables e a l =
-    let P = λ (tables : List TableDef). (new ≡ record (told old.res) { defs = Some tables; work = under (told old.res).reads tables }) × IfSome (told old.res).reads (λ reads. cell_fault old.name tables (reads tables) ≡ None) in
-    subst P e (l, sound_reads old.name tables (told old.res).reads a)
+stays_so : (old new : Told) → new ≡ record (detached old) { spare = new.spare } → StaysStored old new
+stays_so old new l = record { kept = ap store l; count = ap (λ (t : Told). t.faults) l }
 
--- or its attach was refused
-refused_at : {S : Type 0} (told : S → Told) (cat : Defined) (at : ℕ) (old : Lane S) (new : Told) (a : AttachFault) (f : StartFault)
-    → IfSome (told old.res).reads (λ reads. IsAttachAnswer (reads (tables_for cat old.name)) (Err a)) → Attaches (tables_for cat old.name) (told old.res) new (Err a)
-    → IsStartFault old.name (tables_for cat old.name) at a f → AttachesOne told cat at (Err f) old new
-refused_at told cat at old new a (fault.Refused r) h l e =
-    (record { kept = same_store (told old.res) new (tables_for cat old.name) a l; count = same_count a l e }, told_fault old.name (tables_for cat old.name) (told old.res).reads a r h e)
-  where
-    same_count : (a : AttachFault) → Attaches (tables_for cat old.name) (told old.res) new (Err a) → refusal_of old.name (tables_for cat old.name) a ≡ Some r → new.faults ≡ (told old.res).faults
-    same_count (attach.BadCell table row col) l e = ap (λ (t : Told). t.faults) l
-    same_count (attach.BadStore table) l e = ap (λ (t : Told). t.faults) l
-    same_count attach.Memory l e = cc
-    same_count attach.Failed l e = cc
-refused_at told cat at old new (attach.BadCell table row col) (fault.Failed lane) h l e = let wrong = e.0 in cc
-refused_at told cat at old new (attach.BadStore table) (fault.Failed lane) h l e = let wrong = e.0 in cc
-refused_at told cat at old new attach.Memory (fault.Failed lane) h l e = let wrong = e.0 in cc
-refused_at told cat at old new attach.Failed (fault.Failed lane) h l e = (e.1, ap store l.same, l.rose)
-refused_at told cat at old new (attach.BadCell table row col) fault.Memory h l e = record { kept = ap store l; count = ap (λ (t : Told). t.faults) l }
-refused_at told cat at old new (attach.BadStore table) fault.Memory h l e = record { kept = ap store l; count = ap (λ (t : Told). t.faults) l }
-refused_at told cat at old new attach.Memory fault.Memory h l e = record { kept = ap store l; count = ap (λ (t : Told). t.faults) l }
-refused_at told cat at old new attach.Failed fault.Memory h l e = absurd (e refl)
+of_before : (before now : Image → Type 0) (reads : Option Image) → ((i : Image) → now i → before i) → IfSome reads now → IfSome reads before
+of_before before now None within h = tt
+of_before before now (Some i) within h = within i h
 
-pub refused_one : {S : Type 0} (told : S → Told) (cat : Defined) (at : ℕ) (old : Lane S) (new : Told) (tables : List TableDef) (a : AttachFault) (f : StartFault) → tables ≡ tables_for cat old.name
-    → IfSome (told old.res).reads (λ reads. IsAttachAnswer (reads tables) (Err a)) → Attaches tables (told old.res) new (Err a) → IsStartFault old.name tables at a f
-    → AttachesOne told cat at (Err f) old new
-refused_one told cat at old new tables a f e h l s =
-    refused_at told cat at old new a f (subst (λ (ts : List TableDef). IfSome (told old.res).reads (λ reads. IsAttachAnswer (reads ts) (Err a))) e h)
-    (subst (λ (ts : List TableDef). Attaches ts (told old.res) new (Err a)) e l) (subst (λ (ts : List TableDef). IsStartFault old.name ts at a f) e s)
+fails_so : (old new : Told) (before now : Image → Type 0) → Fewer before now → Fails (record (detached old) { spare = new.spare }) new now → FailedStore before old new
+fails_so old new before now fewer l = record {
+  caps = ap (λ (t : Told). t.caps) l.stores.same;
+  tells = l.stores.tells;
+  rose = l.rose;
+  reads = inl (of_before before now new.reads fewer.within l.stores.reads);
+}
+
+refused_at : {S : Type 0} (told : S → Told) (images : S → Image → Type 0) (cat : Defined) (at : ℕ) (old : Lane S) (new : Told) (now : Image → Type 0) → Fewer (images old.res) now → (a : AttachFault) (f : StartFault)
+    → IfSome (told old.res).reads (λ reads. IsAttachAnswer (reads (tables_for cat old.name)) (Err a)) → Attaches (tables_for cat old.name) (told old.res) new now (Err a)
+    → IsStartFault old.name (tables_for cat old.name) at a f → AttachesOne told images cat at (Err f) old new
+refused_at told images cat at old new now fewer (attach.BadCell table row col) (fault.Refused r) h l e =
+    (stays_so (told old.res) new l, told_fault old.name (tables_for cat old.name) (told old.res).reads (attach.BadCell table row col) r h e)
+refused_at told images cat at old new now fewer (attach.BadStore table) (fault.Refused r) h l e =
+    (stays_so (told old.res) new l, told_fault old.name (tables_for cat old.name) (told old.res).reads (attach.BadStore table) r h e)
+refused_at told images cat at old new now fewer attach.Memory (fault.Refused r) h l e = cc
+refused_at told images cat at old new now fewer attach.Failed (fault.Refused r) h l e = cc
+refused_at told images cat at old new now fewer (attach.BadCell table row col) (fault.Failed lane) h l e = let wrong = e.0 in cc
+refused_at told images cat at old new now fewer (attach.BadStore table) (fault.Failed lane) h l e = let wrong = e.0 in cc
+refused_at told images cat at old new now fewer attach.Memory (fault.Failed lane) h l e = let wrong = e.0 in cc
+refused_at told images cat at old new now fewer attach.Failed (fault.Failed lane) h l e = (e.1, fails_so (told old.res) new (images old.res) now fewer l)
+refused_at told images cat at old new now fewer (attach.BadCell table row col) fault.Memory h l e = stays_so (told old.res) new l
+refused_at told images cat at old new now fewer (attach.BadStore table) fault.Memory h l e = stays_so (told old.res) new l
+refused_at told images cat at old new now fewer attach.Memory fault.Memory h l e = stays_so (told old.res) new l
+refused_at told images cat at old new now fewer attach.Failed fault.Memory h l e = absurd (e refl)
+
+pub refused_one : {S : Type 0} (told : S → Told) (images : S → Image → Type 0) (cat : Defined) (at : ℕ) (old : Lane S) (new : Told) (now : Image → Type 0) → Fewer (images old.res) now → (tables : List TableDef) (a : AttachFault) (f : StartFault) → tables ≡ tables_for cat old.name
+    → IfSome (told old.res).reads (λ reads. IsAttachAnswer (reads tables) (Err a)) → Attaches tables (told old.res) new now (Err a) → IsStartFault old.name tables at a f
+    → AttachesOne told images cat at (Err f) old new
+refused_one told images cat at old new now fewer tables a f e h l s =
+    refused_at told images cat at old new now fewer a f (subst (λ (ts : List TableDef). IfSome (told old.res).reads (λ reads. IsAttachAnswer (reads ts) (Err a))) e h)
+    (subst (λ (ts : List TableDef). Attaches ts (told old.res) new now (Err a)) e l) (subst (λ (ts : List TableDef). IsStartFault old.name ts at a f) e s)
 
 -- why a start is refused: by the text or the deployment, or by a lane
 pub undeployed : {S : Type 0} (told : S → Told) (ddl : List ℕ) (lanes : List (Lane S)) (f : StartFault) → DeploysText told ddl lanes (Err f) → HasReason told ddl lanes f
@@ -91,10 +89,10 @@ unattached told ddl lanes cat (fault.Failed lane) d h = tt
 unattached told ddl lanes cat fault.Memory d h = tt
 
 -- the engine of a start, and what it keeps
-pub started : {S : Type 0} (told : S → Told) (ddl : List ℕ) (cat : Defined) (old new : List (Lane S)) → StayStored told None old new → StartedOver told ddl old cat new
+pub started : {S : Type 0} (told : S → Told) (images : S → Image → Type 0) (ddl : List ℕ) (cat : Defined) (old new : List (Lane S)) → StayStored told images None old new → StartedOver told ddl old cat new
     → Started told (record { ddl = ddl; lanes = old }) (record { parts = record { ddl = ddl; lanes = new }; catalog = cat; broken = false })
-started told ddl cat old new s h = record {
-  stays = record { ddl = refl; labels = s.labels; stores = s.stores };
+started told images ddl cat old new s h = record {
+  stays = record { ddl = refl; labels = s.labels; stores = h.attached.stores };
   counts_stay = s.counts;
   deploys = h.deploys;
   reads = h.attached.reads;
@@ -102,10 +100,10 @@ started told ddl cat old new s h = record {
   whole = refl;
 }
 
-pub not_started : {S : Type 0} (told : S → Told) (ddl : List ℕ) (old new : List (Lane S)) (f : StartFault) → StayStored told (failed_lane f) old new → HasReason told ddl old f
-    → NotStarted told (record { ddl = ddl; lanes = old }) (record { parts = record { ddl = ddl; lanes = new }; fault = f })
-not_started told ddl old new f s h = record {
-  stays = record { ddl = refl; labels = s.labels; stores = s.stores };
+pub not_started : {S : Type 0} (told : S → Told) (images : S → Image → Type 0) (ddl : List ℕ) (old new : List (Lane S)) (f : StartFault) → StayStored told images (failed_lane f) old new → HasReason told ddl old f
+    → NotStarted told images (record { ddl = ddl; lanes = old }) (record { parts = record { ddl = ddl; lanes = new }; fault = f })
+not_started told images ddl old new f s h = record {
+  back = record { ddl = refl; labels = s.labels; stores = s.keep };
   lanes = s.counts;
   why = h;
 }

@@ -1,25 +1,30 @@
 -- Fetching the tables that a query reads, whole and each once.
-use Rattle.std.specs.Prelude.{◌≡◌, ℕ, ◌<◌, Bool, true, false, List, [], ◌∷◌, length, slice_index_or, Option, Some, None, Result, Ok, Err, IfSome, IsPermutation, All}
+use Rattle.std.specs.Prelude.{◌≡◌, ℕ, zero, suc, ◌+◌, ◌<◌, Bool, true, false, List, [], ◌∷◌, length, slice_index_or, Option, Some, None, Result, Ok, Err, IfSome, IsPermutation, All}
 use Rattle.vdb_base.specs.Counts.{Rose}
 use Rattle.vdb_model.specs.declared.bag.Bag.{Bag}
 use Rattle.vdb_model.specs.declared.source.SourceQuery.{SourceQuery}
 use Rattle.vdb_model.specs.declared.table.TableDef.{TableDef}
 use Rattle.vdb_model.specs.Defined.{Defined}
-use Rattle.vdb_model.specs.Defs.{no_table}
+use Rattle.vdb_model.specs.Defs.{no_table, def_of}
 use Rattle.vdb_model.specs.Relations.{no_bag}
-use Rattle.vdb_model.specs.Rows.{Cells, cut_rows}
+use Rattle.vdb_model.specs.Rows.{Cells}
 use Rattle.vdb_model.specs.WellFormed.{tables_on}
-use Rattle.vdb_model.specs.World.{table_rows}
 use Rattle.processor.specs.Reads.{mark}
 use Rattle.resource.specs.declared.lane.Lane.{Lane}
 use Rattle.resource.specs.declared.resource.ResFault.{ResFault}
 use Rattle.resource.specs.declared.resource.ResFault.TheVariants as res
-use Rattle.resource.specs.Asks.{Allows}
-use Rattle.resource.specs.Told.{Told}
+use Rattle.resource.specs.declared.resource.ResState.TheVariants as state
+use Rattle.resource.specs.Asks.{Allows, AnswersQuery}
+use Rattle.resource.specs.Told.{Told, IsWorld}
 use Rattle.vdb_session.specs.declared.fetching.FetchFault.{FetchFault}
 use Rattle.vdb_session.specs.declared.fetching.FetchFault.TheVariants as fetch
 use Rattle.vdb_session.specs.Lanes.{attached}
-use Rattle.vdb_session.specs.Shown.{numbers, rows_of_table, serves, lane_from, server_shows, sees, tables_for}
+use Rattle.vdb_session.specs.Shown.{rows_of_table, serves, lane_from, server_shows, sees, tables_for}
+
+-- numbers in turn, so many, from here
+abbrev pub numbers : ℕ → ℕ → List ℕ
+numbers n zero = []
+numbers n (suc count) = n ∷ numbers (n + 1) count
 
 -- the query for the whole of a table
 abbrev pub whole : TableDef → SourceQuery
@@ -37,9 +42,10 @@ at_lane (Ok rows) lane = Ok rows
 at_lane (Err res.Failed) lane = Err (fetch.Failed lane)
 at_lane (Err res.Memory) lane = Err fetch.Memory
 
--- where a lane tells its definitions and its rows, these are the table's, in any order
-abbrev pub HasRows : TableDef → Told → List Cells → Type 0
-HasRows d t rows = IfSome t.defs (λ defs. IfSome t.work (λ work. IsPermutation (cut_rows (numbers 0 (length d.columns)) (table_rows defs work d.number)) rows))
+-- the rows answer the query for the whole of the table, over tables whose rows their definitions take
+pub record AnswersWhole (d : TableDef) (t : Told) (rows : List Cells) : Type 0 where
+  pub answers : AnswersQuery t (whole d) rows
+  pub world : IsWorld t
 
 -- a lane stays attached as it was, and so does its count
 pub record StaysAttached (old new : Told) : Type 0 where
@@ -48,13 +54,14 @@ pub record StaysAttached (old new : Told) : Type 0 where
 
 -- what a lane that was asked for a table answers, and is left as
 abbrev pub AskedHere : TableDef → Result (List Cells) ResFault → Told → Told → Type 0
-AskedHere d (Ok rows) old new = StaysAttached old new × HasRows d old rows
+AskedHere d (Ok rows) old new = StaysAttached old new × AnswersWhole d old rows
 AskedHere d (Err res.Memory) old new = StaysAttached old new
 AskedHere d (Err res.Failed) old new = (attached new ≡ attached old) × Rose old.faults new.faults
 
--- a lane may be asked for the whole of a table: it is attached to those of the table's server
+-- a lane may be asked for the whole of a table: it is attached to those of the table's server, and this is one of them
 pub record MayAskHere (cat : Defined) (d : TableDef) (t : Told) : Type 0 where
   pub defs : t.defs ≡ Some (tables_on d.server cat.tables)
+  pub one_of : def_of (tables_on d.server cat.tables) d.number ≡ d
   pub allows : Allows t (whole d)
 
 -- and so may each that serves the table's server
@@ -69,9 +76,13 @@ MayAskEach told cat lanes = All (λ d. MayAsk told cat d lanes) cat.tables
 abbrev pub IsServing : {S : Type 0} → Defined → ℕ → List (Lane S) → ℕ → Type 0
 IsServing cat server lanes at = lane_from 0 cat server lanes ≡ Some at
 
--- each lane is attached to the tables of its server
+-- the lane is attached to the tables of its server, and has no branch
+pub record IsAttached {S : Type 0} (told : S → Told) (cat : Defined) (lane : Lane S) : Type 0 where
+  pub defs : (told lane.res).defs ≡ Some (tables_for cat lane.name)
+  pub idle : (told lane.res).state ≡ state.Idle
+
 abbrev pub AreAttached : {S : Type 0} → (S → Told) → Defined → List (Lane S) → Type 0
-AreAttached told cat lanes = All (λ lane. (told lane.res).defs ≡ Some (tables_for cat lane.name)) lanes
+AreAttached told cat lanes = All (IsAttached told cat) lanes
 
 -- where the lane tells them, the table's rows in any order
 abbrev pub AreRows : {S : Type 0} → (S → Told) → Defined → List (Lane S) → TableDef → List Cells → Type 0

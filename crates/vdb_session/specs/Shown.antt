@@ -1,15 +1,15 @@
 -- What lanes show of a catalog's tables: which lane holds the tables of a server, and the rows of all tables.
-use Rattle.std.specs.Prelude.{ℕ, zero, suc, ◌+◌, Bool, false, ◌==◌, if◌then◌else◌, List, [], ◌∷◌, length, Option, Some, None}
+use Rattle.std.specs.Prelude.{ℕ, ◌+◌, Bool, false, ◌==◌, if◌then◌else◌, List, [], ◌∷◌, Option, Some, None}
 use Rattle.std.specs.Option.{option_map}
 use Rattle.vdb_model.specs.declared.catalog.ServerDef.{ServerDef}
 use Rattle.vdb_model.specs.declared.table.TableDef.{TableDef}
 use Rattle.vdb_model.specs.Defined.{Defined}
 use Rattle.vdb_model.specs.Defs.{same_name}
-use Rattle.vdb_model.specs.Rows.{Cells, cut_rows}
+use Rattle.vdb_model.specs.Rows.{Cells}
 use Rattle.vdb_model.specs.WellFormed.{tables_on}
 use Rattle.vdb_model.specs.World.{table_rows}
 use Rattle.resource.specs.declared.lane.Lane.{Lane}
-use Rattle.resource.specs.Told.{Told, under}
+use Rattle.resource.specs.Told.{Told, work, under}
 
 -- the number, counted on from here, of the server that a lane of this name serves
 abbrev pub server_from : ℕ → List ServerDef → List ℕ → Option ℕ
@@ -41,14 +41,9 @@ abbrev pub server_shows : {S : Type 0} → (Lane S → Option (List (List Cells)
 server_shows shows cat [] server = Some []
 server_shows shows cat (lane ∷ lanes) server = if serves cat server lane.name then shows lane else server_shows shows cat lanes server
 
--- numbers in turn, so many, from here
-abbrev pub numbers : ℕ → ℕ → List ℕ
-numbers n zero = []
-numbers n (suc count) = n ∷ numbers (n + 1) count
-
--- a table's rows, cut to its columns
+-- a table's rows, among those of its server's tables
 abbrev pub rows_of_table : Defined → TableDef → List (List Cells) → List Cells
-rows_of_table cat d shown = cut_rows (numbers 0 (length d.columns)) (table_rows (tables_on d.server cat.tables) shown d.number)
+rows_of_table cat d shown = table_rows (tables_on d.server cat.tables) shown d.number
 
 abbrev pub with_rows : Option (List Cells) → Option (List (List Cells)) → Option (List (List Cells))
 with_rows None more = None
@@ -65,7 +60,7 @@ world_by shows cat lanes = rows_of_tables shows cat lanes cat.tables
 
 -- what a lane sees now
 abbrev pub sees : {S : Type 0} → (S → Told) → Lane S → Option (List (List Cells))
-sees told lane = (told lane.res).work
+sees told lane = work (told lane.res)
 
 -- what a lane's store holds under the definitions of its tables
 abbrev pub holds : {S : Type 0} → (S → Told) → Defined → Lane S → Option (List (List Cells))

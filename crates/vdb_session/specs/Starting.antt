@@ -9,6 +9,7 @@ use Rattle.vdb_model.specs.NameText.{name_text, dotted}
 use Rattle.resource.specs.declared.lane.Lane.{Lane}
 use Rattle.resource.specs.declared.resource.AttachFault.{AttachFault}
 use Rattle.resource.specs.declared.resource.AttachFault.TheVariants as attach
+use Rattle.resource.specs.Images.{Image}
 use Rattle.resource.specs.Reading.{Reading, Sound, CellFault, StoreFault}
 use Rattle.resource.specs.Told.{Told}
 use Rattle.resolver.specs.Queries.{query_walk}
@@ -21,7 +22,7 @@ use Rattle.vdb_session.specs.declared.parts.Parts.{Parts}
 use Rattle.vdb_session.specs.declared.parts.StartFault.{StartFault}
 use Rattle.vdb_session.specs.declared.parts.StartFault.TheVariants as fault
 use Rattle.vdb_session.specs.declared.parts.StartRefused.{StartRefused}
-use Rattle.vdb_session.specs.Lanes.{LaneCounts, Stays, counts}
+use Rattle.vdb_session.specs.Lanes.{LaneCounts, Stays, HandedBack, counts}
 use Rattle.vdb_session.specs.Shown.{tables_for, world_by, sees, holds}
 
 -- the table with the number, which is told as one more
@@ -33,7 +34,7 @@ store_table tables n = if n == 0 then None else Some (table_text tables n)
 
 -- the fault of a deployment that the fault of the store of the lane of this name is
 abbrev pub cell_fault : List ℕ → List TableDef → Reading → Option DeployFault
-cell_fault server tables (Sound rows) = None
+cell_fault server tables (Sound rows branch) = None
 cell_fault server tables (CellFault table row col) = Some (deploy.BadCell (name_text server) (table_text tables table) row col)
 cell_fault server tables (StoreFault table) = Some (deploy.BadStore (name_text server) (store_table tables table))
 
@@ -76,20 +77,20 @@ pub record NoDeployment {S : Type 0} (told : S → Told) (ddl : List ℕ) (lanes
   pub reads : IsDdl ddl items
   pub refused : deployed query_walk (map (connection told) lanes) items ≡ Err f
 
--- of the lanes in turn this is the first whose store breaks a rule
-pub record IsFirstBad {S : Type 0} (told : S → Told) (cat : Defined) (lanes : List (Lane S)) (f : DeployFault) : Type 0 where
+-- of the lanes in turn this is the first that has a fault
+pub record IsFirst {S : Type 0} (Has : Option DeployFault → Lane S → Type 0) (lanes : List (Lane S)) (f : DeployFault) : Type 0 where
   pub before : List (Lane S)
   pub lane : Lane S
   pub after : List (Lane S)
   pub split : lanes ≡ before ++ lane ∷ after
-  pub sound : All (ReadsAs told cat None) before
-  pub breaks : ReadsAs told cat (Some f) lane
+  pub sound : All (Has None) before
+  pub has : Has (Some f) lane
 
--- they deploy, and a stored cell or the form of a stored table breaks its rule
+-- they deploy, and a stored cell or the form of a stored table breaks its rule: it is the first of the lanes' that does
 pub record BadContents {S : Type 0} (told : S → Told) (ddl : List ℕ) (lanes : List (Lane S)) (f : DeployFault) : Type 0 where
   pub cat : Defined
   pub deploys : Deploys told ddl lanes cat
-  pub first : IsFirstBad told cat lanes f
+  pub first : IsFirst (ReadsAs told cat) lanes f
 
 abbrev pub IsStartRefusal : {S : Type 0} → (S → Told) → List ℕ → List (Lane S) → DeployFault → Type 0
 IsStartRefusal told ddl lanes f = NoItems ddl f ⊎ (NoDeployment told ddl lanes f ⊎ BadContents told ddl lanes f)
@@ -105,7 +106,8 @@ HasReason told ddl lanes (fault.Refused f) = IsStartRefusal told ddl lanes f
 HasReason told ddl lanes (fault.Failed lane) = ⊤
 HasReason told ddl lanes fault.Memory = ⊤
 
--- the parts deploy, their contents keep the rules, and the engine works on them: its lanes see what their stores hold
+-- the parts deploy, their contents keep the rules, and the engine works on them: its lanes see the committed rows that their
+-- stores held
 pub record Started {S : Type 0} (told : S → Told) (parts : Parts S) (engine : Opened S) : Type 0 where
   pub stays : Stays told parts engine.parts
   pub counts_stay : counts told engine.parts ≡ counts told parts
@@ -115,11 +117,11 @@ pub record Started {S : Type 0} (told : S → Told) (parts : Parts S) (engine : 
   pub whole : engine.broken ≡ false
 
 -- the parts are handed back with the fault
-pub record NotStarted {S : Type 0} (told : S → Told) (parts : Parts S) (refused : StartRefused S) : Type 0 where
-  pub stays : Stays told parts refused.parts
+pub record NotStarted {S : Type 0} (told : S → Told) (images : S → Image → Type 0) (parts : Parts S) (refused : StartRefused S) : Type 0 where
+  pub back : HandedBack told images parts refused.parts
   pub lanes : LaneCounts (failed_lane refused.fault) (counts told parts) (counts told refused.parts)
   pub why : HasReason told parts.ddl parts.lanes refused.fault
 
-abbrev pub Starts : {S : Type 0} → (S → Told) → Parts S → Result (Opened S) (StartRefused S) → Type 0
-Starts told parts (Ok engine) = Started told parts engine
-Starts told parts (Err refused) = NotStarted told parts refused
+abbrev pub Starts : {S : Type 0} → (S → Told) → (S → Image → Type 0) → Parts S → Result (Opened S) (StartRefused S) → Type 0
+Starts told images parts (Ok engine) = Started told parts engine
+Starts told images parts (Err refused) = NotStarted told images parts refused

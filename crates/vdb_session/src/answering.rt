@@ -2,7 +2,7 @@
 
 ghost use Rattle.std.specs.Prelude.{◌≡◌, ◌≤◌, length, None, IsTrue};
 ghost use Rattle.catalog_laws.specs.Over.{HasNoPatterns};
-ghost use Rattle.resource.specs.Told.{unasked};
+ghost use Rattle.resource.specs.Leaves.{unasked};
 ghost use Rattle.vdb_model.specs.Stacked.{names_first};
 ghost use Rattle.vdb_session.specs.Answer as spec;
 ghost use Rattle.vdb_session.specs.Fetching.{AreAttached};

@@ -5,6 +5,7 @@ ghost use Rattle.vdb_session.specs.Attaching as spec;
 ghost use Rattle.vdb_session.specs.Shown as shown;
 ghost use Rattle.vdb_model.specs.WellFormed as formed;
 
+use crate::branches::roll_back;
 use crate::parts::StartFault;
 use crate::serving::server_of;
 use crate::starting::start_fault;
@@ -36,7 +37,7 @@ fn tables_for(alloc: Global, cat: &Catalog, name: &Text) -> Result<TableDefs, No
     }
 }
 
-/// Attaches the lane at the place to the tables of its server.
+/// Attaches the lane at the place to the tables of its server. A branch that its store has prepared is rolled back.
 fn attach_one<S: Resource>(
     lane: &mut Lane<S>,
     at: u32,
@@ -46,13 +47,13 @@ fn attach_one<S: Resource>(
     requires take { spec.TakesTables S.told cat.now lane.old }
     ensures name { lane.new.name ≡ lane.old.name }
     ensures kind { lane.new.kind ≡ lane.old.kind }
-    ensures attached { spec.AttachesOne S.told cat.now at result lane.old (S.told lane.new.res) }
+    ensures attached { spec.AttachesOne S.told S.images cat.now at result lane.old (S.told lane.new.res) }
 {
     let Ok(tables) = tables_for(alloc, cat, &lane.name) else {
         return Err(StartFault::Memory);
     };
     match lane.res.attach(alloc, &tables) {
-        Ok(()) => Ok(()),
+        Ok(()) => roll_back(lane, at),
         Err(fault) => Err(start_fault(alloc, &lane.name, tables.as_slice(), at, fault)),
     }
 }
@@ -65,8 +66,8 @@ pub fn attach_lanes<S: Resource>(
 ) -> Result<(), StartFault>
     requires few { length lanes.old ≤ 4294967295 }
     requires take { All (spec.TakesTables S.told cat.now) lanes.old }
-    ensures stays { spec.StayStored S.told (spec.failed_start result) lanes.old lanes.new }
-    ensures attached { spec.AttachesAll S.told cat.now result lanes.old lanes.new }
+    ensures stays { spec.StayStored S.told S.images (spec.failed_start result) lanes.old lanes.new }
+    ensures attached { spec.AttachesEach S.told cat.now result lanes.old lanes.new }
 {
     for (at, lane) in lanes.iter_mut().enumerate() {
         match attach_one(lane, at as u32, alloc, cat) {

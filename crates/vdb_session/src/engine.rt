@@ -37,16 +37,19 @@ impl<S: Resource> Model for Engine<S> {
 impl<S: Resource> Engine<S> {
     ghost use Rattle.resource.specs.declared.lane.Lane.{Lane};
     ghost use Rattle.vdb_session.specs.Answer as spec;
-    ghost use Rattle.vdb_session.specs.Lanes.{are_apart, names_of, counts, LaneCounts};
+    ghost use Rattle.vdb_session.specs.Lanes.{are_apart, are_here, names_of, counts, LaneCounts};
     ghost use Rattle.vdb_session.specs.Starting.{Starts};
 
     /// Deploys the parts' DDL over the lanes, and attaches each lane to the tables of its server. A refusal hands the
-    /// parts back with the first fault: of the text, of the deployment, and then of the lanes in turn.
+    /// parts back with the first fault: of the text, of the deployment, then of the stores in turn. A branch that a store
+    /// has prepared is rolled back once it is attached, since no journal tells yet what was decided.
     ///
-    /// No two lanes may have one name, which `are_apart` tests, since a server is one connection.
+    /// No two lanes may have one name, which `are_apart` tests, since a server is one connection; and none may be lost,
+    /// which `are_here` tests.
     pub fn start(parts: Parts<S>, alloc: Global) -> Result<Engine<S>, StartRefused<S>>
         requires apart { IsTrue (are_apart (names_of parts.lanes)) }
-        ensures { Starts S.told parts result }
+        requires here { IsTrue (are_here S.told parts.lanes) }
+        ensures { Starts S.told S.images parts result }
     {
         let mut parts = parts;
         match deploy_and_attach(&mut parts.lanes, alloc, parts.ddl.as_slice()) {

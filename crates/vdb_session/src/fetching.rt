@@ -5,7 +5,6 @@ ghost use Rattle.catalog_laws.specs.Over.{HasNoPatterns};
 ghost use Rattle.resource.specs.Asks.{Allows};
 ghost use Rattle.vdb_session.specs.Fetching as spec;
 ghost use Rattle.vdb_session.specs.Lanes.{AreAsked};
-ghost use Rattle.vdb_session.specs.Shown.{numbers};
 
 use crate::serving::lane_serving;
 use resource::{Lane, ResFault, Resource};
@@ -25,7 +24,7 @@ pub enum FetchFault {
 /// The numbers of so many columns.
 #[tactic(auto, using(crate::proofs::Numbers::numbers_more))]
 fn numbers(alloc: Global, count: usize) -> Result<Nums, NoMemory>
-    ensures { IfOk result (λ made. made ≡ numbers 0 count) }
+    ensures { IfOk result (λ made. made ≡ spec.numbers 0 count) }
 {
     let count = u32::try_from(count).map_err(|_| NoMemory)?;
     let mut made = Seq::new(alloc);

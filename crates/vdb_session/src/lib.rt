@@ -1,7 +1,8 @@
 //! Sessions: an engine over stores, which answers one statement after another.
 //!
 //! `Engine::start` reads the DDL, deploys it over the lanes as connections, and attaches each lane to the tables of its server;
-//! a refusal hands the parts back with the first fault. It needs lanes of different names, which `are_apart` tests.
+//! a refusal hands the parts back with the first fault. It needs lanes of different names, which `are_apart` tests, and none
+//! that is lost, which `are_here` tests. A store with a prepared branch is refused, since no journal keeps decisions yet.
 //! `Engine::answer` gives a statement its reply: the rows of its query over the tables that the lanes show, or its refusal
 //! (`specs/Meaning`). It fetches each table that the query reads whole and once, and evaluates at home.
 //!
@@ -11,6 +12,7 @@
 
 mod answering;
 mod attaching;
+mod branches;
 mod engine;
 mod fetching;
 mod names;
@@ -23,7 +25,7 @@ mod starting;
 
 pub use answering::Answer;
 pub use engine::Engine;
-pub use names::are_apart;
+pub use names::{are_apart, are_here};
 pub use parts::{Opened, Parts, StartFault, StartRefused};
 pub use serving::serves;
 pub use vdb_lines::print_reply;

@@ -3,7 +3,7 @@
 ghost use Rattle.std.specs.Prelude.{◌≡◌, map, IsTrue, IfOk};
 ghost use Rattle.vdb_session.specs.Attaching.{StayStored};
 ghost use Rattle.vdb_session.specs.Deploying as spec;
-ghost use Rattle.vdb_session.specs.Lanes.{are_apart, names_of};
+ghost use Rattle.vdb_session.specs.Lanes.{are_apart, are_here, names_of};
 ghost use Rattle.vdb_session.specs.Starting.{connection};
 
 use crate::attaching::attach_lanes;
@@ -64,14 +64,15 @@ fn deploy_text<S: Resource>(
 }
 
 /// Deploys the DDL over the lanes and attaches each of them. More lanes than 32 bits count are want of memory.
-#[tactic(auto, using(crate::proofs::FitLanes::no_patterns))]
+#[tactic(auto, using(crate::proofs::FitLanes::no_patterns, crate::proofs::AttachedLanes::stored_none))]
 fn start_on<S: Resource>(
     lanes: &mut [Lane<S>],
     alloc: Global,
     ddl: &[u8],
 ) -> Result<Catalog, StartFault>
     requires apart { IsTrue (are_apart (names_of lanes.old)) }
-    ensures stays { StayStored S.told (spec.failed_deploy result) lanes.old lanes.new }
+    requires here { IsTrue (are_here S.told lanes.old) }
+    ensures stays { StayStored S.told S.images (spec.failed_deploy result) lanes.old lanes.new }
     ensures starts { spec.StartsOver S.told ddl.now lanes.old result lanes.new }
 {
     if lanes.len() > u32::MAX as usize {
@@ -96,7 +97,8 @@ pub fn deploy_and_attach<S: Resource>(
     ddl: &[u8],
 ) -> Result<Catalog, StartFault>
     requires apart { IsTrue (are_apart (names_of lanes.old)) }
-    ensures stays { StayStored S.told (spec.failed_deploy result) lanes.old lanes.new }
+    requires here { IsTrue (are_here S.told lanes.old) }
+    ensures stays { StayStored S.told S.images (spec.failed_deploy result) lanes.old lanes.new }
     ensures starts { spec.StartsOver S.told ddl.now lanes.old result lanes.new }
 {
     start_on(lanes.as_mut_slice(), alloc, ddl)

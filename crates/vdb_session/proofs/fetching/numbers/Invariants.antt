@@ -1,5 +1,5 @@
 use Rattle.std.proofs.Common.{◌≡◌}
-use Rattle.vdb_session.specs.Shown.{numbers}
+use Rattle.vdb_session.specs.Fetching.{numbers}
 use Rattle.vdb_session.proofs.fetching.numbers.Given as goal
 
 abbrev pub invariant-loop-at : goal.invariant-loop-at

@@ -1,21 +1,60 @@
-use Rattle.std.proofs.Common.{◌≡◌}
-use Rattle.vdb_model.specs.Rows.{cut_rows}
-use Rattle.resource.specs.Checked.{rows_asked}
-use Rattle.resource.proofs.PlainAnswer.{query_answered, query_fits, query_counts}
+use Rattle.resource.specs.Fields.{fields_of}
+use Rattle.resource.proofs.KeptWell.{good, well}
+use Rattle.resource.proofs.QuerySays.{query_answers, query_fits, query_world, query_leaves, query_images, query_by_list, query_good}
 use Rattle.resource.proofs.mem_resource.MemResourceResource.query.Goals as goal
-
-rows_are : (c : goal.Else-is_err) → c.in-Ok.rows ≡ cut_rows c.args.q.now.columns (rows_asked c.args.self.now.stored c.args.self.now.defs c.args.q.now.tables)
-rows_are c = cc (c.in-Ok.ensures, c.asked_rows-stored.ensures, c.as_slice.ensures, c.as_slice-2.ensures)
 
 pub returns-clause-answer : goal.returns-clause-answer
 returns-clause-answer c =
-    let s = c.args.self.now in
-    query_answered s.stored s.caps s.plain c.args.q.now s.defs c.requires.defs c.in-Ok.rows c.requires.attached c.requires.within (rows_are c)
+    let old = fields_of c.args.self.now.inner in
+    let new = fields_of c.query.new.self in
+    let g = good old c.args.self.now.kept_well in
+    let q = c.args.q.now in
+    query_answers q old new g c.requires c.query.result c.query.ensures
 
 pub returns-clause-fit : goal.returns-clause-fit
 returns-clause-fit c =
-    let s = c.args.self.now in
-    record {
-      cells = query_fits s.stored s.caps s.plain c.args.q.now s.defs c.requires.defs c.in-Ok.rows c.requires.attached c.requires.within s.sound (rows_are c);
-      one = query_counts s.stored s.caps s.plain c.args.q.now c.requires.defs c.in-Ok.rows c.requires.within;
-    }
+    let old = fields_of c.args.self.now.inner in
+    let new = fields_of c.query.new.self in
+    let g = good old c.args.self.now.kept_well in
+    let q = c.args.q.now in
+    query_fits q old new g c.requires c.query.result c.query.ensures
+
+pub returns-clause-world : goal.returns-clause-world
+returns-clause-world c =
+    let old = fields_of c.args.self.now.inner in
+    let new = fields_of c.query.new.self in
+    let g = good old c.args.self.now.kept_well in
+    let q = c.args.q.now in
+    query_world q old new g c.requires c.query.result
+
+pub returns-clause-leaves : goal.returns-clause-leaves
+returns-clause-leaves c =
+    let old = fields_of c.args.self.now.inner in
+    let new = fields_of c.query.new.self in
+    let g = good old c.args.self.now.kept_well in
+    let q = c.args.q.now in
+    query_leaves q old new g c.requires c.query.result c.query.ensures
+
+pub returns-clause-stops : goal.returns-clause-stops
+returns-clause-stops c =
+    let old = fields_of c.args.self.now.inner in
+    let new = fields_of c.query.new.self in
+    let g = good old c.args.self.now.kept_well in
+    let q = c.args.q.now in
+    query_images q old new g c.requires c.query.result c.query.ensures
+
+pub returns-clause-by_list : goal.returns-clause-by_list
+returns-clause-by_list c =
+    let old = fields_of c.args.self.now.inner in
+    let new = fields_of c.query.new.self in
+    let g = good old c.args.self.now.kept_well in
+    let q = c.args.q.now in
+    query_by_list q old new g c.requires c.query.result c.query.ensures
+
+pub invariant_of-self : goal.invariant_of-self
+invariant_of-self c =
+    let old = fields_of c.args.self.now.inner in
+    let new = fields_of c.query.new.self in
+    let g = good old c.args.self.now.kept_well in
+    let q = c.args.q.now in
+    record { kept_well = well new (query_good q old new g c.requires c.query.result c.query.ensures) }

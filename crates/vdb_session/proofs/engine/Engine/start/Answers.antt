@@ -10,5 +10,5 @@ invariant_of-result g c =
 
 pub returns-in-Ok : goal.returns-in-Ok
 returns-in-Ok g c =
-    started g.S.Resource.told c.args.parts.ddl c.in-Ok.catalog c.args.parts.lanes c.deploy_and_attach.new.lanes c.in-Ok.ensures.stays
+    started g.S.Resource.told g.S.Resource.images c.args.parts.ddl c.in-Ok.catalog c.args.parts.lanes c.deploy_and_attach.new.lanes c.in-Ok.ensures.stays
     (subst (λ ddl. StartedOver g.S.Resource.told ddl c.args.parts.lanes c.in-Ok.catalog c.deploy_and_attach.new.lanes) c.as_slice.ensures c.in-Ok.ensures.starts)

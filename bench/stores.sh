@@ -1,0 +1,55 @@
+#!/bin/sh
+# CSV files of 100,000 and 1,000,000 lines attached: vdb started over them with an empty script, and sqlite3's import of the
+# same files where it is there. Prints the least time of three runs each, their ratio, the growth from the smaller file to the
+# greater, the greatest memory of vdb, and that memory by the bytes of the file and by the row.
+set -eu
+top=$(cd "$(dirname "$0")/.." && pwd)
+work=$(mktemp -d)
+trap 'rm -rf "$work"' EXIT
+cat >"$work/orders.ddl" <<'DDL'
+CREATE SERVER files FOREIGN DATA WRAPPER csv;
+CREATE SCHEMA s SERVER files;
+SET SCHEMA s;
+CREATE FOREIGN TABLE orders (id integer, cust integer, qty integer, note string, PRIMARY KEY (id));
+DDL
+for lines in 100000 1000000; do
+    mkdir "$work/$lines"
+    awk -v n=$lines 'BEGIN { print "id,cust,qty,note"; for (i = 1; i <= n; i++) print i "," (i * 7919) % (n / 10) + 1 "," i % 100 ",note " i % 1000 }' >"$work/$lines/orders.csv"
+done
+# Builds the program where it isn't there.
+"$top/vdb" run "$work/orders.ddl" "files=csv:$work/100000" </dev/null
+python3 - "$top" "$work" <<'PY'
+import os, shutil, subprocess, sys, time
+
+top, work = sys.argv[1:]
+
+def run(words, stdin):
+    """The time of a run, and its greatest memory in MB."""
+    start = time.monotonic()
+    with open(stdin) as given:
+        child = subprocess.Popen(words, stdin=given, stdout=subprocess.DEVNULL)
+        _, status, used = os.wait4(child.pid, 0)
+    if status != 0:
+        sys.exit(f"{words[0]} ended with {status}")
+    return time.monotonic() - start, used.ru_maxrss // 1024
+
+def least(words, stdin):
+    runs = [run(words, stdin) for _ in range(3)]
+    return min(time for time, _ in runs), max(memory for _, memory in runs)
+
+before = None
+for lines in (100000, 1000000):
+    file = f"{work}/{lines}/orders.csv"
+    ours, memory = least([top + "/crates/vdb/out/vdb", "run", work + "/orders.ddl", f"files=csv:{work}/{lines}"], os.devnull)
+    text = f"{lines} lines attached: vdb {ours:.2f} s, at most {memory} MB, {memory * 1048576 / os.path.getsize(file):.1f} times the file, {memory * 1048576 // lines} bytes a row"
+    if before is not None:
+        text += f", {ours / before:.1f} times the smaller"
+    before = ours
+    if shutil.which("sqlite3"):
+        with open(work + "/lite.sql", "w") as script:
+            script.write("CREATE TABLE orders (id INTEGER PRIMARY KEY, cust INTEGER, qty INTEGER, note TEXT);\n")
+            script.write(f".import --csv --skip 1 {file} orders\n")
+        theirs, _ = least(["sqlite3", ":memory:"], work + "/lite.sql")
+        text += f"; sqlite3 {theirs:.2f} s; ratio {ours / theirs:.2f}"
+    print(text, flush=True)
+PY

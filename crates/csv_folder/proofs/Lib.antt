@@ -1,0 +1,13 @@
+pub mod RecordsLeft
+pub mod NextRead
+pub mod FieldAt
+pub mod TableByNumber
+pub mod Numbers
+pub mod Apart
+pub mod NamesSeen
+pub mod CellsByPlace
+pub mod ByPlaces
+pub mod OnePass
+pub mod ReadsWorld
+pub mod TableByTable
+pub mod FolderSays

@@ -1,0 +1,13 @@
+pub mod Records
+pub mod Cells
+pub mod Header
+pub mod Keys
+pub mod Table
+pub mod Folder
+pub mod Seen
+pub mod SeenItems
+pub mod Places
+pub mod SoFar
+pub mod Saying
+pub mod Told
+pub mod CsvFolder
