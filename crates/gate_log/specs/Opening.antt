@@ -21,15 +21,16 @@ pub record Entered (end : ℕ) (old new : DiskTold) (before now : List ℕ → T
   pub same : option_map records new.bytes ≡ option_map records old.bytes
   pub is_open : IfSome new.bytes (IsOpenAt end now)
 
--- the bytes break the format, and nothing was changed
-pub record FoundBad (old new : DiskTold) : Type 0 where
+-- the bytes, which a stop may leave, break the format, and nothing was changed
+pub record FoundBad (old new : DiskTold) (now : List ℕ → Type 0) : Type 0 where
   pub broken : IfSome old.bytes (λ bytes. records bytes ≡ None)
   pub same : new ≡ old
+  pub stands : IfSome new.bytes now
 
 -- what an opening answers, and what it leaves
 abbrev pub Enters : DiskTold → DiskTold → (List ℕ → Type 0) → (List ℕ → Type 0) → Result ℕ OpenCause → Type 0
 Enters old new before now (Ok end) = Entered end old new before now
-Enters old new before now (Err cause.Bad) = FoundBad old new
+Enters old new before now (Err cause.Bad) = FoundBad old new now
 Enters old new before now (Err cause.Failed) = Fails old new now
 
 -- the place of the last gate, none where the bytes break the format, as an opening answers it

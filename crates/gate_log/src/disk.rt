@@ -11,7 +11,7 @@ use vdb_base::Failed;
 /// What was written, or cut off, is safe only after the next sync: until then a stop may leave any bytes in the ranges
 /// that were written, and a length between. A call that failed may have done any part of its work, and reads give from
 /// then on one of the contents that a stop may leave.
-pub trait Disk: Send {
+pub trait Disk {
     /// The bytes that reads give, where the disk can tell them, and its count of faults.
     ghost told: { Self → DiskTold };
 

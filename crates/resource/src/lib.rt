@@ -6,7 +6,7 @@
 //! are bounded: they are those of before, or beside them the one that the call was to make. `MemResource` tells everything
 //! and fails exactly at its listed calls; it is the yardstick for the other stores, and `stopped` gives each image of it. It
 //! is asked for filtered columns of one table at a time. The engine and every store stand on this crate; `passing_cut`, `takes`,
-//! `check_tables`, `cut` and `StoredDelta` are here for the stores.
+//! `check_tables`, `cut`, `take_out` and `StoredDelta` are here for the stores.
 #![tactic(auto)]
 
 mod asked;
@@ -28,6 +28,7 @@ pub use lane::{Lane, Lanes};
 pub use mem_resource::{MemResource, asks_one_table};
 pub use resource::{AttachFault, ChangeFault, ResFault, ResState, Resource, Vote};
 pub use stored::{StoredDelta, StoredTable, Tables};
+pub use tables::take_out;
 
 #[cfg(test)]
 mod tests;

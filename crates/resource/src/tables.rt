@@ -51,7 +51,7 @@ pub fn asked_rows<'a>(
 }
 
 /// Takes a row out once, where it stands.
-fn take_out(rows: &mut Vec<Row>, row: &Row)
+pub fn take_out(rows: &mut Vec<Row>, row: &Row)
     ensures { rows.new.items ≡ deltas.without_one row.now rows.old.items }
 {
     for i in 0..rows.len() {

@@ -1,4 +1,5 @@
-use Rattle.std.proofs.Common.{◌≡◌, ℕ, ◌≤◌, List, length, arith}
+use Rattle.std.proofs.Common.{◌≡◌, ℕ, ◌≤◌, List, length, sym, arith}
+use Rattle.gate_log.specs.Stops.{Only}
 use Rattle.gate_log.proofs.Told.{told_map, told_as}
 use Rattle.gate_log.proofs.Records.{records_long}
 use Rattle.gate_log.proofs.Emptied.{keeps_short, entered_blank}
@@ -31,4 +32,5 @@ returns-then-len-gt-LOG_LIMIT-clause-answer g c =
     record {
       broken = told_map _ (λ (b : List ℕ). c.in_ok-len.len ≡ length b) _ (λ (b : List ℕ) (e : c.in_ok-len.len ≡ length b). records_long b (omega arith)) synced.answer;
       same = synced.leaves;
+      stands = told_as _ _ (g.D.Disk.images c.synced_len.new.disk) (sym synced.leaves) (told_map _ (λ (b : List ℕ). Only b (g.D.Disk.images c.synced_len.new.disk)) (g.D.Disk.images c.synced_len.new.disk) (λ (b : List ℕ) only. only.is) synced.safe);
     }

@@ -1,0 +1,5 @@
+pub mod WalkSteps
+pub mod ReplaySteps
+pub mod ListSteps
+pub mod OpenSteps
+pub mod FaultSteps

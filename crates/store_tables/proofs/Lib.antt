@@ -1,0 +1,9 @@
+pub mod Times
+pub mod TallySteps
+pub mod TableSteps
+pub mod AnswerSteps
+pub mod KeyedSteps
+pub mod OrderSteps
+pub mod ShelfSteps
+pub mod Listed
+pub mod OneTable
