@@ -1,0 +1,10 @@
+pub mod Attaching
+pub mod Changes
+pub mod Seen
+pub mod Standing
+pub mod Store
+pub mod Taking
+pub mod Appends
+pub mod Writing
+pub mod Counting
+pub mod WhatStands
