@@ -8,8 +8,8 @@
 //! For every disk that tells its contents, and at every exit of every call: each content that a stop may leave has the
 //! records of before, or in `append` those and the new one; after Ok each has the new one. `Bad` comes exactly where the
 //! bytes break the format, `Full` exactly where the frame is longer than what is left, and `Failed` only where the disk's
-//! count of faults rose. No call of the log takes memory. The journal of decisions and the journaled store are to stand
-//! on this crate.
+//! count of faults rose. No call of the log takes memory. The journaled store stands on this crate, and the journal of
+//! decisions is to.
 #![tactic(auto)]
 
 mod append;

@@ -1,11 +1,10 @@
 -- A row that is answered stands in its table.
-use Rattle.std.proofs.Common.{◌≡◌, ◌∙◌, ℕ, suc, Bool, true, false, ◌==◌, ◌&&◌, ◌||◌, if◌then◌else◌, List, [], ◌∷◌, length, Option, Some, None, IfSome, refl, sym, ap, subst, arith}
+use Rattle.std.proofs.Common.{◌≡◌, ◌∙◌, ℕ, suc, Bool, true, false, ◌==◌, if◌then◌else◌, List, [], ◌∷◌, length, Option, Some, None, IfSome, refl, sym, ap, subst, arith}
 use Rattle.std.specs.Option.{unwrap_or}
 use Rattle.std.specs.List.{filter, list_any}
 use Rattle.std.proofs.lemmas.Bool.{and_parts, and_from}
 use Rattle.std.proofs.lemmas.List.{append-nil}
 use Rattle.std.proofs.lemmas.List.Sorted.{list_any-IsPermutation}
-use Rattle.vdb_base.specs.declared.value.Ty.{Ty}
 use Rattle.vdb_base.specs.declared.value.Ty.TheVariants.{Integer, Str}
 use Rattle.vdb_model.specs.declared.source.SourceQuery.{SourceQuery}
 use Rattle.vdb_model.specs.declared.table.ColumnDef.{ColumnDef}

@@ -10,7 +10,7 @@ use Rattle.vdb_model.specs.declared.expr.Expr.{Expr}
 use Rattle.vdb_model.specs.declared.expr.Expr.TheFolds.{fold-roll-Expr}
 use Rattle.vdb_model.specs.declared.expr.Expr.TheOpen.{Expr-F}
 use Rattle.vdb_model.specs.declared.expr.Expr.TheVariants.{Col, Const, Cmp, rolls-Col, rolls-Const, rolls-Cmp}
-use Rattle.vdb_model.specs.Typed.{Types, is_of, is_some_type, same_type, alike, typed_step, arm_types, has_type}
+use Rattle.vdb_model.specs.Typed.{Types, is_of, is_some_type, alike, typed_step, arm_types, has_type}
 use Rattle.vdb_model.specs.Asking.{all_conditions}
 
 abbrev columns : List Ty

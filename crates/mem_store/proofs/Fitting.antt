@@ -1,19 +1,18 @@
 -- Rows that go into the columns of their tables.
 use Rattle.std.proofs.Common.{◌≡◌, ℕ, Bool, true, false, not, ◌==◌, ◌&&◌, ◌||◌, List, [], ◌∷◌, None, refl, sym, ap, ◌∙◌}
-use Rattle.std.proofs.lemmas.Bool.{and_parts, and_from}
 use Rattle.std.proofs.lemmas.List.{append-nil}
 use Rattle.std.proofs.lemmas.List.Sorted.{list_any-IsPermutation}
 use Rattle.std.specs.List.{list_any}
-use Rattle.std.specs.Prelude.{if◌then◌else◌, IsPermutation}
+use Rattle.std.specs.Prelude.{if◌then◌else◌}
 use Rattle.vdb_base.specs.declared.value.Ty.{Ty}
 use Rattle.vdb_model.specs.declared.source.Delta.{Delta}
 use Rattle.vdb_model.specs.declared.source.SourceQuery.{SourceQuery}
 use Rattle.vdb_model.specs.declared.table.TableDef.{TableDef}
 use Rattle.vdb_model.specs.Asking.{types_of, query_types}
 use Rattle.vdb_model.specs.Defs.{def_of}
-use Rattle.vdb_model.specs.Deltas.{changed, after_delta, repeats_key}
+use Rattle.vdb_model.specs.Deltas.{changed, after_delta}
 use Rattle.vdb_model.specs.Rows.{Cells}
-use Rattle.vdb_model.specs.World.{takes_rows, keeps_key, is_table, is_world, table_rows}
+use Rattle.vdb_model.specs.World.{takes_rows, keeps_key, table_rows}
 use Rattle.resource.specs.Asks.{types_at, answer_types, cells_fit, all_rows_fit}
 use Rattle.resource.specs.Checked.{passing_cut}
 use Rattle.resource.proofs.Changed.{world_changed}
@@ -48,16 +47,6 @@ keyless_rows : (defs : List TableDef) (tables : List (List Cells)) (n : ℕ) →
 keyless_rows [] tables n = refl
 keyless_rows (d ∷ ds) [] n = refl
 keyless_rows (d ∷ ds) (rows ∷ tables) n = ap (λ rest. if d.number == n then rows else rest) (keyless_rows ds tables n)
-
--- the rows of a world go into their columns
-pub world_takes : (defs : List TableDef) (tables : List (List Cells)) → is_world defs tables ≡ true → all_take defs tables ≡ true
-world_takes [] [] h = refl
-world_takes [] (rows ∷ tables) h = h
-world_takes (d ∷ ds) [] h = h
-world_takes (d ∷ ds) (rows ∷ tables) h =
-    let parts = and_parts (is_table d rows) (is_world ds tables) h in
-    let fits = (and_parts (takes_rows d.columns rows) (keeps_key d.key rows) parts.0).0 in
-    and_from (takes_rows d.columns rows && true) (all_take ds tables) (and_from (takes_rows d.columns rows) true fits refl) (world_takes ds tables parts.1)
 
 -- and so do those that a change adds
 pub changed_takes : (defs : List TableDef) (tables : List (List Cells)) (delta : Delta) → all_take defs tables ≡ true → takes_rows (def_of defs delta.table).columns delta.added ≡ true → all_take defs (after_delta defs tables delta) ≡ true

@@ -15,10 +15,11 @@ pub mod DropCalls
 pub mod AttachSteps
 pub mod OpenedSteps
 pub mod ReopenSteps
-pub mod SettledSteps
+pub mod AgainSteps
 pub mod StoreSteps
 pub mod TakeSteps
 pub mod TellingSteps
 pub mod Customers
 pub mod Answered
 pub mod ChangingSteps
+pub mod Sent

@@ -22,12 +22,10 @@ use Rattle.gate_log.specs.Appending.{framed as logged, payload_of, IsFrame}
 use Rattle.gate_log.specs.Walking.{gate_behind}
 use Rattle.gate_log.proofs.Frames.{payload_of-framed, IsFrame-framed}
 use Rattle.gate_log.proofs.Records.{opened-append, length-body}
-use Rattle.store_records.specs.declared.branch.Ending.{Ending}
-use Rattle.store_records.specs.declared.branch.Ending.TheVariants as ending
 use Rattle.store_records.specs.declared.entry.Entry.{Entry}
 use Rattle.store_records.specs.declared.entry.Entry.TheVariants.{Prepared, Committed, RolledBack, OnePhase}
 use Rattle.store_records.specs.Fields.{◌>>=◌}
-use Rattle.store_records.specs.Framing.{Frames, ending_of, ending_size}
+use Rattle.store_records.specs.Framing.{Frames, ending_size}
 use Rattle.store_records.specs.Payloads.{payload, IsPayload}
 use Rattle.store_records.specs.Reading.{entry_of}
 use Rattle.store_records.proofs.Entries.{entry_again}
@@ -113,14 +111,6 @@ IsPayload-Frames e frame frames = record { has = frames.has; is = payload_of-Fra
 
 pub length-Frames : (e : Entry) (frame : List ℕ) → Frames e frame → length frame ≡ length (payload e) + 5
 length-Frames e frame frames = omega (arith, ap length (frame_is e frame frames), length-append (body (payload e)) (0 ∷ []), length-body (payload e))
-
-pub length-ending : (ending : Ending) (x : Xid) → length (payload (ending_of ending x)) ≡ 17
-length-ending ending.Committed x = refl
-length-ending ending.RolledBack x = refl
-
--- the frame of an ending has 22 bytes
-pub length-Frames-ending : (ending : Ending) (x : Xid) (frame : List ℕ) → Frames (ending_of ending x) frame → length frame ≡ ending_size
-length-Frames-ending ending x frame frames = omega (arith, length-Frames (ending_of ending x) frame frames, length-ending ending x)
 
 pub gate_more : (payloads : List (List ℕ)) (p : List ℕ) → gate_behind (payloads ++ p ∷ []) ≡ gate_behind payloads + (length p + 5)
 gate_more payloads p = omega (arith, ap length (opened-append payloads (p ∷ [])), length-append (opened payloads) (opened (p ∷ [])), length-append (body p) [], length-body p)

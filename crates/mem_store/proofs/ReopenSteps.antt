@@ -136,16 +136,21 @@ module _ (s0 : ResState) (r0 : Bool) (d : Option (List TableDef)) (f0 own spare0
 
 -- ---- of the store
 
-lost_in : (att : Option Attached) (a : Attached) (s : ResState) (n end left : ℕ) (res : Option (List ℕ)) (t : DiskTold) (now : List ℕ → Type 0) → att ≡ Some a → s ≡ state.Lost → IfSome att (IsAttached s n end left res t now)
-    → AreApart a.shelf.defs × IfSome t.bytes (Lost n a.shelf.defs now)
-lost_in att a s n end left res t now some lost h =
-    let at : IsAttached s n end left res t now a = subst (λ o. IfSome o (IsAttached s n end left res t now)) some h in
-    (at.apart, subst (λ x. Stays x n end left res a t now) lost at.stays)
+at_attached : (att : Option Attached) (a : Attached) (P : Attached → Type 0) → att ≡ Some a → IfSome att P → P a
+at_attached att a P some h = subst (λ o. IfSome o P) some h
+
+lost_in : (att : Option Attached) (a : Attached) (s : ResState) (n end left : ℕ) (res : Option (List ℕ)) (t : DiskTold) (now : List ℕ → Type 0) → att ≡ Some a → s ≡ state.Lost → IfSome att (IsAttached s n end left res t now) → IfSome t.bytes (Lost n a.shelf.defs now)
+lost_in att a s n end left res t now some lost h = subst (λ x. Stays x n end left res a t now) lost (at_attached att a (IsAttached s n end left res t now) some h).stays
 
 -- where no bytes were told, none are
 untold : (P : List ℕ → Type 0) (b0 b1 : Option (List ℕ)) → is_some b1 ≡ is_some b0 → b0 ≡ None → IfSome b1 P
 untold P b0 None e none = tt
 untold P b0 (Some y) e none = let no : is_some b0 ≡ false = ap is_some none in cc
+
+module _ {D : Type 0} (told : D → DiskTold) (images : D → List ℕ → Type 0) (old : Inner D) where
+  pub is_apart : (a : Attached) → old.attached ≡ Some a → Standing told images old → AreApart a.shelf.defs
+  is_apart a some stands =
+      (at_attached old.attached a (IsAttached old.state old.records old.log.end (left_of old.log) (option_map (λ frame. frame.items) old.reserved) (told old.log.disk) (images old.log.disk)) some stands.attached).apart
 
 module _ {D : Type 0} (told : D → DiskTold) (images : D → List ℕ → Type 0) (old : Inner D) (log : Log D) (a : Attached) (some : old.attached ≡ Some a) (lost : old.state ≡ state.Lost) (stands : Standing told images old) where
   abbrev t0 : DiskTold
@@ -157,11 +162,8 @@ module _ {D : Type 0} (told : D → DiskTold) (images : D → List ℕ → Type 
   abbrev now : List ℕ → Type 0
   now = images log.disk
 
-  was : AreApart a.shelf.defs × IfSome t0.bytes (Lost old.records a.shelf.defs (images old.log.disk))
+  was : IfSome t0.bytes (Lost old.records a.shelf.defs (images old.log.disk))
   was = lost_in old.attached a old.state old.records old.log.end (left_of old.log) (option_map (λ frame. frame.items) old.reserved) t0 (images old.log.disk) some lost stands.attached
-
-  pub lost_apart : AreApart a.shelf.defs
-  lost_apart = was.0
 
   -- the log was opened again, and nothing else is new but the count of its own
   abbrev pub lost_with : ℕ → Inner D
@@ -172,11 +174,11 @@ module _ {D : Type 0} (told : D → DiskTold) (images : D → List ℕ → Type 
 
   lost_stands : (own : ℕ) → IfSome t1.bytes (λ bytes. own ≡ 0) → is_some t1.bytes ≡ is_some t0.bytes → Keeps t0 (images old.log.disk) now → IfSome t1.bytes now → Standing told images (lost_with own)
   lost_stands own none e keeps here =
-      let lost_now = lost_still old.records a.shelf.defs t0.bytes t1.bytes (images old.log.disk) now e keeps here was.1 in
+      let lost_now = lost_still old.records a.shelf.defs t0.bytes t1.bytes (images old.log.disk) now e keeps here was in
       record {
         own = none;
         attached = subst (λ o. IfSome o (IsAttached old.state old.records log.end (left_of log) None t1 now)) (sym some) (record {
-          apart = was.0;
+          apart = is_apart told images old a some stands;
           stays = subst (λ x. Stays x old.records log.end (left_of log) None a t1 now) (sym lost) lost_now;
         });
       }
@@ -185,7 +187,7 @@ module _ {D : Type 0} (told : D → DiskTold) (images : D → List ℕ → Type 
       → option_map (contents_in old.records (seen_of old).defs (seen_of old).deltas) t1.bytes ≡ option_map (contents_in old.records (seen_of old).defs (seen_of old).deltas) t0.bytes
   contents_stay e keeps here =
       subst (λ d. option_map (contents_in old.records d (seen_of old).deltas) t1.bytes ≡ option_map (contents_in old.records d (seen_of old).deltas) t0.bytes) (sym defs_are)
-      (lost_contents old.records a.shelf.defs (seen_of old).deltas t0.bytes t1.bytes (images old.log.disk) now e keeps here was.1)
+      (lost_contents old.records a.shelf.defs (seen_of old).deltas t0.bytes t1.bytes (images old.log.disk) now e keeps here was)
 
   -- after want of memory
   pub wanting_stands : KeepsStore t0 t1 now → Keeps t0 (images old.log.disk) now → Standing told images (lost_with old.own_faults)
@@ -232,9 +234,9 @@ module _ {D : Type 0} (told : D → DiskTold) (images : D → List ℕ → Type 
     where
       by : (why : AttachFault) → CountsFault why (lost_with old.own_faults) new answer → IfSome t0.bytes (OpensAs a.shelf.defs (Err why)) → OpenLeaves {T = Opened} t0 t1 now (Err why) → Standing told images new
       by (attach.BadCell table row col) counted h leaves =
-          subst (λ (n : Inner D). Standing told images n) (sym counted.0) (broken_stands new.own_faults (no_cell_fault old.records a.shelf.defs t0.bytes (images old.log.disk) table row col was.1 h) leaves keeps)
+          subst (λ (n : Inner D). Standing told images n) (sym counted.0) (broken_stands new.own_faults (no_cell_fault old.records a.shelf.defs t0.bytes (images old.log.disk) table row col was h) leaves keeps)
       by (attach.BadStore table) counted h leaves =
-          subst (λ (n : Inner D). Standing told images n) (sym counted.0) (broken_stands new.own_faults (no_store_fault old.records a.shelf.defs t0.bytes (images old.log.disk) table was.1 h) leaves keeps)
+          subst (λ (n : Inner D). Standing told images n) (sym counted.0) (broken_stands new.own_faults (no_store_fault old.records a.shelf.defs t0.bytes (images old.log.disk) table was h) leaves keeps)
       by attach.Failed counted h leaves = subst (λ (n : Inner D). Standing told images n) (sym counted.0) (failing_stands leaves keeps)
       by attach.Memory counted h leaves = subst (λ (n : Inner D). Standing told images n) (sym counted.0) (wanting_stands leaves keeps)
 

@@ -1,10 +1,9 @@
 -- A query of a journaled store.
-use Rattle.std.proofs.Common.{◌≡◌, ℕ, ◌+◌, ◌-◌, Bool, true, false, List, [], ◌∷◌, Option, Some, None, IfSome, refl, sym, ap, subst, ◌∙◌, rules, length}
+use Rattle.std.proofs.Common.{◌≡◌, ℕ, ◌+◌, ◌-◌, true, false, List, [], ◌∷◌, Option, Some, None, IfSome, refl, sym, subst, rules, length}
 use Rattle.std.proofs.lemmas.List.Sorted.{IsPermutation-trans}
 use Rattle.std.specs.List.Sorted.{IsSorted}
 use Rattle.std.specs.Option.{unwrap_or}
 use Rattle.std.specs.Prelude.{option_map, IsPermutation}
-use Rattle.vdb_model.specs.declared.source.Delta.{Delta}
 use Rattle.vdb_model.specs.declared.source.SourceQuery.{SourceQuery}
 use Rattle.vdb_model.specs.declared.table.TableDef.{TableDef}
 use Rattle.vdb_model.specs.Answers.{AnsweredBy, Answered, asked_bag, placed}

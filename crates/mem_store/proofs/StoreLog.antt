@@ -1,9 +1,8 @@
 -- The log of a journaled store: what its bytes read as, and one record more.
-use Rattle.std.proofs.Common.{◌≡◌, ℕ, ◌+◌, ◌-◌, ◌<◌, ◌≤◌, true, inl, inr, List, [], ◌∷◌, ◌++◌, length, take, Option, Some, None, IfSome, Result, Ok, Err, refl, sym, ap, subst, ◌∙◌, arith, length-append}
+use Rattle.std.proofs.Common.{◌≡◌, ℕ, ◌+◌, ◌-◌, ◌≤◌, true, List, [], ◌∷◌, ◌++◌, length, take, Option, Some, None, refl, sym, ap, ◌∙◌, arith}
 use Rattle.std.proofs.lemmas.List.{append-nil, take_at}
 use Rattle.std.specs.List.{list_all}
 use Rattle.std.specs.Option.{unwrap_or}
-use Rattle.std.specs.Prelude.{option_map, ◌⊎◌}
 use Rattle.vdb_model.specs.declared.source.Delta.{Delta}
 use Rattle.vdb_model.specs.declared.source.Xid.{Xid}
 use Rattle.vdb_model.specs.declared.table.TableDef.{TableDef}
@@ -11,17 +10,12 @@ use Rattle.vdb_model.specs.Defs.{is_defined}
 use Rattle.vdb_model.specs.Deltas.{after_deltas}
 use Rattle.vdb_model.specs.Rows.{Cells}
 use Rattle.vdb_model.specs.World.{is_world}
-use Rattle.gate_log.specs.Appending.{payload_of, with_record, Appended, MayHaveRecord}
-use Rattle.gate_log.specs.Disk.{DiskTold, Fails}
-use Rattle.gate_log.specs.Log.{EndsAt, IsOpenAt}
-use Rattle.gate_log.specs.Records.{log_limit, body, opened, records}
-use Rattle.gate_log.specs.Stops as stops
+use Rattle.gate_log.specs.Appending.{payload_of}
+use Rattle.gate_log.specs.Log.{EndsAt}
+use Rattle.gate_log.specs.Records.{log_limit, opened, records}
 use Rattle.gate_log.proofs.Places.{place_of}
 use Rattle.resource.specs.declared.resource.ResState.{ResState}
-use Rattle.resource.specs.declared.resource.ResState.TheVariants as state
-use Rattle.resource.specs.declared.stored.StoredDelta.{StoredDelta}
-use Rattle.resource.specs.Images.{Image, Only}
-use Rattle.resource.specs.Reading.{Branch, Reading, Sound}
+use Rattle.resource.specs.Reading.{Branch, Sound}
 use Rattle.resource.specs.Stored.{StoredBranch, tables_in, after_stored, numbered}
 use Rattle.resource.proofs.ByName.{all_seen}
 use Rattle.store_records.specs.declared.entry.Entry.TheVariants.{Prepared, Committed, RolledBack, OnePhase}
@@ -30,15 +24,11 @@ use Rattle.store_records.specs.Framing.{Frames}
 use Rattle.mem_store.specs.Changes.{stored_as}
 use Rattle.store_replay.specs.Replay.{Replayed, nothing, replay, room_behind, read_bytes}
 use Rattle.store_replay.specs.Replaying.{AreApart}
-use Rattle.mem_store.specs.Standing.{Knows, Lost, MayRead, IsStoredAs}
-use Rattle.mem_store.specs.Store.{tables_left, kept_by, images_read}
-use Rattle.mem_store.proofs.MoreRecords.{replay_prepared, replay_one_phase, replay_committed, replay_rolled_back, IsPayload-Frames, length-Frames, payload_of-Frames, room_more, reads_unbranched, reads_branched, reads_same, numbered_stored, tables_after_stored}
+use Rattle.mem_store.specs.Standing.{Knows, IsStoredAs}
+use Rattle.mem_store.specs.Store.{tables_left, kept_by}
+use Rattle.mem_store.proofs.MoreRecords.{replay_prepared, replay_one_phase, replay_committed, replay_rolled_back, IsPayload-Frames, length-Frames, payload_of-Frames, room_more, reads_unbranched, reads_branched, numbered_stored, tables_after_stored}
 
 -- ---- counting records
-
-few : (ps : List (List ℕ)) → length ps ≤ length (opened ps)
-few [] = omega arith
-few (p ∷ ps) = omega (arith, few ps, length-append (body p) (opened ps))
 
 ends_with : (end : ℕ) (bytes : List ℕ) (payloads : List (List ℕ)) → EndsAt end bytes → records bytes ≡ Some payloads → end ≡ 8 + length (opened payloads)
 ends_with end bytes payloads ends are =
@@ -50,12 +40,6 @@ ends_with end bytes payloads ends are =
 pub room_is : (end : ℕ) (bytes : List ℕ) (payloads : List (List ℕ)) → EndsAt end bytes → records bytes ≡ Some payloads → room_behind payloads ≡ log_limit - (end + 1)
 room_is end bytes payloads ends are = ap (λ e. log_limit - (e + 1)) (sym (ends_with end bytes payloads ends are))
 
-pub few_records : (end : ℕ) (bytes : List ℕ) (payloads : List (List ℕ)) → EndsAt end bytes → records bytes ≡ Some payloads → length payloads < log_limit
-few_records end bytes payloads ends are =
-    let within = ends.within in
-    let short = ends.no_longer in
-    omega (arith, few payloads, ends_with end bytes payloads ends are)
-
 -- ---- what is kept, and the images
 
 -- the known records are the first ones
@@ -63,13 +47,6 @@ pub kept_first : (n : ℕ) (bytes : List ℕ) (payloads more : List (List ℕ)) 
 kept_first n bytes payloads more defs are count =
     ap (λ (o : Option (List (List ℕ))). tables_left (o >>= λ ps. replay (take n ps) nothing) defs) are
     ∙ ap (λ (ps : List (List ℕ)). tables_left (replay ps nothing) defs) (take_at payloads more n count)
-
--- a stop leaves these bytes alone, which read so
-pub only_read : (bytes : List ℕ) (now : List ℕ → Type 0) (defs : List TableDef) (reading : Reading) → stops.Only bytes now → read_bytes bytes defs ≡ reading → Only defs reading (images_read (Some bytes) now)
-only_read bytes now defs reading only reads = record {
-  some = (read_bytes bytes, (bytes, only.is, refl));
-  each = λ i h. ap (λ (f : Image). f defs) h.2 ∙ ap (λ c. read_bytes c defs) (only.only h.0 h.1) ∙ reads;
-}
 
 module _ (s : ResState) (n end : ℕ) (defs : List TableDef) (kept : List (List Cells)) (deltas : List Delta) (now : List ℕ → Type 0) (bytes : List ℕ) (k : Knows s n end defs kept deltas now bytes) where
   pub knows_kept : kept_by n bytes defs ≡ kept

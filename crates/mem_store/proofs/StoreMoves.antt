@@ -1,7 +1,6 @@
 -- Steps of a journaled store that leave its log as it is.
-use Rattle.std.proofs.Common.{◌≡◌, ℕ, ◌<◌, ◌≤◌, true, List, [], ◌∷◌, length, Option, Some, None, IfSome, refl, sym, ap, subst, ◌∙◌, arith}
+use Rattle.std.proofs.Common.{◌≡◌, ℕ, List, [], length, Option, Some, None, IfSome, sym, ap, subst, arith}
 use Rattle.std.specs.List.{list_all}
-use Rattle.std.specs.Prelude.{option_map}
 use Rattle.vdb_model.specs.declared.source.Delta.{Delta}
 use Rattle.vdb_model.specs.declared.source.Xid.{Xid}
 use Rattle.vdb_model.specs.declared.table.TableDef.{TableDef}
@@ -10,17 +9,13 @@ use Rattle.vdb_model.specs.Rows.{Cells}
 use Rattle.gate_log.specs.Disk.{DiskTold}
 use Rattle.resource.specs.declared.resource.ResState.{ResState}
 use Rattle.resource.specs.declared.resource.ResState.TheVariants as state
-use Rattle.resource.specs.Images.{Image, Same}
 use Rattle.mem_store.specs.declared.attached.Attached.{Attached}
 use Rattle.mem_store.specs.Attaching.{IsWritten}
-use Rattle.mem_store.specs.Standing.{IsBranch, BranchIn, LogBranch, Knows, Works, Stays, IsAttached, IsReserved}
+use Rattle.mem_store.specs.Standing.{IsBranch, LogBranch, Knows, Works, Stays, IsAttached, IsReserved}
 
 pub if_some_map : {A : Type 0} (o : Option A) (P Q : A → Type 0) → ((x : A) → P x → Q x) → IfSome o P → IfSome o Q
 if_some_map None P Q f h = tt
 if_some_map (Some x) P Q f h = f x h
-
-pub same_images : (now : Image → Type 0) → Same now now
-same_images now = record { within = λ i h. h; keeps = λ i h. h }
 
 -- the log's branch is none in both states
 module _ (s t : ResState) (n end : ℕ) (defs : List TableDef) (kept : List (List Cells)) (deltas : List Delta) (now : List ℕ → Type 0) where

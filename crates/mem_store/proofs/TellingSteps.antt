@@ -34,10 +34,6 @@ same_reads None (Some y) e = cc
 same_reads (Some x) None e = cc
 same_reads (Some x) (Some y) e = ap Some (reads_same y x (some_same (records y) (records x) e))
 
--- what the first records leave is by the records alone
-same_kept : (n : ℕ) (defs : List TableDef) (x y : List ℕ) → records y ≡ records x → kept_by n y defs ≡ kept_by n x defs
-same_kept n defs x y e = ap (λ (o : Option (List (List ℕ))). tables_left (o >>= λ payloads. replay (take n payloads) nothing) defs) e
-
 same_contents : (n : ℕ) (defs : Option (List TableDef)) (deltas : List Delta) (x y : List ℕ) → kept_by n y ≡ kept_by n x → contents_in n defs deltas y ≡ contents_in n defs deltas x
 same_contents n None deltas x y e = refl
 same_contents n (Some defs) deltas x y e = ap (λ (kept : List TableDef → List (List Cells)). record { kept = kept defs; deltas = deltas }) e
@@ -61,9 +57,6 @@ fewer (Some x) (Some y) i0 i1 e keeps stands = record { within = within; some = 
     within i h =
         let k = keeps h.0 h.1 in
         (k.0, k.1, h.2 ∙ reads_same h.0 k.0 k.2)
-
-pub fewer_same : (b : Option (List ℕ)) (now : List ℕ → Type 0) → Fewer (images_read b now) (images_read b now)
-fewer_same b now = record { within = λ i h. h; some = λ i h. (i, h) }
 
 -- ---- what is told, by the parts that a reading moves
 

@@ -1,5 +1,5 @@
 -- Steps of a journaled store that leave the log as it is.
-use Rattle.std.specs.Prelude.{◌≡◌, ℕ, false, List, [], Option, Some, None, IfSome, ⊤, ◌⊎◌}
+use Rattle.std.specs.Prelude.{◌≡◌, ℕ, false, List, [], Option, Some, None, ◌⊎◌}
 use Rattle.vdb_model.specs.declared.source.Xid.{Xid}
 use Rattle.gate_log.specs.Disk.{DiskTold}
 use Rattle.resource.specs.declared.resource.ResState.{ResState}
@@ -9,7 +9,6 @@ use Rattle.mem_store.specs.declared.inner.Inner.{Inner}
 use Rattle.store_replay.specs.declared.opening.Opened.{Opened}
 use Rattle.store_replay.specs.declared.opening.Waiting.{Waiting}
 use Rattle.mem_store.specs.Attaching.{IsWritten}
-use Rattle.mem_store.specs.Seen.{Seen}
 use Rattle.mem_store.specs.Standing.{Standing}
 use Rattle.mem_store.specs.Store.{seen_of}
 

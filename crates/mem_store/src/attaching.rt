@@ -5,7 +5,7 @@ ghost use Rattle.resource.specs.declared.resource.ResState.TheVariants as state;
 ghost use Rattle.resource.specs.Reading.{IsAttachAnswer};
 ghost use Rattle.resource.specs.Told.{is_settled};
 ghost use Rattle.resource.specs.Images.{Fewer};
-ghost use Rattle.resource.specs.Needs.{IsIn, MayAttach};
+ghost use Rattle.resource.specs.Needs.{IsAtHand, IsIn, MayAttach};
 ghost use Rattle.resource.specs.Leaves.{Attaches, Reopens};
 
 use crate::attached::Attached;
@@ -13,7 +13,7 @@ use crate::inner::Inner;
 use gate_log::Disk;
 use resource::{AttachFault, ResFault, ResState};
 use std::alloc::Global;
-use store_replay::{Opened, Waiting, open_store};
+use store_replay::{Opened, Waiting, open_store, read_store};
 use vdb_model::TableDefs;
 
 impl<D: Disk> Inner<D> {
@@ -70,6 +70,37 @@ impl<D: Disk> Inner<D> {
         }
     }
 
+    /// Reads a store again whose log is open. The log stays as it is, so that want of memory leaves the branch as it was.
+    fn read_again(&mut self, alloc: Global) -> Result<(), ResFault>
+        requires may { IsAtHand (store_told D.told (seen_of self.old)) }
+        requires stands { Standing D.told D.images self.old }
+        ensures leaves { Reopens (store_told D.told (seen_of self.old)) (store_told D.told (seen_of self.new)) (store_images D.told D.images (seen_of self.new)) result }
+        ensures settled { OnOk result (is_settled (store_told D.told (seen_of self.new)).state ≡ true) }
+        ensures stops { Fewer (store_images D.told D.images (seen_of self.old)) (store_images D.told D.images (seen_of self.new)) }
+        ensures stands { Standing D.told D.images self.new }
+    {
+        self.reserved = None;
+        let Some(attached) = &self.attached else {
+            return Err(ResFault::Memory);
+        };
+        let Ok(defs) = attached.shelf.copy_defs(alloc) else {
+            return Err(ResFault::Memory);
+        };
+        match read_store(alloc, &mut self.log, defs) {
+            Ok(opened) => {
+                self.take(alloc, opened);
+                Ok(())
+            }
+            Err(fault) => match fault {
+                AttachFault::Memory => Err(ResFault::Memory),
+                _ => {
+                    self.state = ResState::Lost;
+                    Err(self.count(fault))
+                }
+            },
+        }
+    }
+
     /// What a reopening answers that didn't read the store. Records that are no sound store's count as a fault.
     fn count(&mut self, fault: AttachFault) -> ResFault
         ensures { CountsFault fault self.old self.new result }
@@ -84,7 +115,7 @@ impl<D: Disk> Inner<D> {
         }
     }
 
-    /// Only a lost store is read. Any other is known, and loses a branch that isn't prepared.
+    /// Reads the store again: a branch that isn't prepared is gone then. The log of a lost store is opened again before.
     pub fn reopen(&mut self, alloc: Global) -> Result<(), ResFault>
         requires may { IsSome (store_told D.told (seen_of self.old)).defs }
         requires stands { Standing D.told D.images self.old }
@@ -95,11 +126,7 @@ impl<D: Disk> Inner<D> {
     {
         match self.state {
             ResState::Lost => self.reopen_lost(alloc),
-            ResState::Prepared(_) => Ok(()),
-            _ => {
-                self.drop_branch();
-                Ok(())
-            }
+            _ => self.read_again(alloc),
         }
     }
 

@@ -1,15 +1,36 @@
-//! Worked runs of a journaled store over a disk in memory.
+//! Worked runs of a journaled store, beside a store in memory that tells everything.
 
 use crate::MemStore;
-use crate::calls::Criterion::{All, IdBelowThree, NameIs};
-use crate::calls::Letter::{A, B, C, Y, Z};
-use crate::calls::Step::{Ask, Change, Commit, CommitAlone, End, Prepare, Reopen, Rollback, Start};
-use crate::calls::{Step, attach, made_customers, said};
+use crate::yardstick::Criterion::{All, IdBelowThree, NameIs};
+use crate::yardstick::Letter::{A, B, C, Y, Z};
+use crate::yardstick::Step::{
+    Ask, Change, Commit, CommitAlone, End, Prepare, Reopen, Rollback, Start,
+};
+use crate::yardstick::{Step, attach, made_customers, said};
 use gate_log::MemDisk;
-use resource::AttachFault;
+use resource::{AttachFault, MemResource};
 use std::alloc::Global;
 use std::test::Fail;
 use vdb_base::{Bytes, Seq};
+use vdb_model::Caps;
+
+/// What a journaled store can do.
+const CAPS: Caps = Caps {
+    equals: true,
+    ordered: true,
+    in_max: 1000,
+    is_null: true,
+    like: true,
+    or: true,
+    not: true,
+    joins: false,
+    distinct: false,
+    order: false,
+    limit: false,
+    count_star: false,
+    wide: true,
+    writes: true,
+};
 
 /// The log of a store that took a branch with the customer (7, 'Z'), prepared and committed.
 const WHOLE: [u8; 96] =
@@ -57,6 +78,16 @@ fn journaled(
     Ok((text, store.into_disk()))
 }
 
+/// What they say of a store in memory that is empty.
+fn in_memory(alloc: Global, steps: &[Step]) -> Result<String, Fail> {
+    let customers = made_customers(alloc)?;
+    let mut store = MemResource::new(alloc, Seq::new(alloc), CAPS, Seq::new(alloc));
+    match attach(alloc, &mut store, &customers) {
+        Ok(()) => said(alloc, &mut store, &customers, steps),
+        Err(fault) => refusal(alloc, fault),
+    }
+}
+
 #[test]
 fn the_bytes_of_a_commit(rt: HostRuntime) -> Result<(), Fail> {
     let alloc = rt.alloc();
@@ -70,7 +101,7 @@ fn the_bytes_of_a_commit(rt: HostRuntime) -> Result<(), Fail> {
 }
 
 #[test]
-fn worked_runs(rt: HostRuntime) -> Result<(), Fail> {
+fn each_answer_is_that_of_a_store_in_memory(rt: HostRuntime) -> Result<(), Fail> {
     let alloc = rt.alloc();
     let filled = Change(None, [Some((1, A)), Some((2, B)), Some((3, A))]);
     let table: [(&[Step], &str); 9] = [
@@ -176,6 +207,7 @@ fn worked_runs(rt: HostRuntime) -> Result<(), Fail> {
     for (steps, expected) in table {
         let (text, _) = journaled(alloc, b"", &[], steps)?;
         assert_eq!(rt; text.as_str(), expected);
+        assert_eq!(rt; in_memory(alloc, steps)?.as_str(), expected);
     }
     Ok(())
 }
@@ -185,11 +217,28 @@ fn calls_that_fail(rt: HostRuntime) -> Result<(), Fail> {
     let alloc = rt.alloc();
     let mut file = WHOLE;
     file[95] = 2;
-    let table: [(&[u8], &[u32], &[Step], &str); 4] = [
+    let one_more = [
+        Start,
+        Change(None, [Some((8, Y)), None, None]),
+        End,
+        Prepare,
+        Reopen,
+        Ask(All),
+    ];
+    let table: [(&[u8], &[u32], &[Step], &str); 7] = [
         (b"XXXXXXXXXX", &[], &[], "store 0"),
         (b"XXXXXXXXX", &[], &[Ask(All)], ""),
         (b"", &[1], &[], "attach failed"),
         (&file, &[], &[Ask(All)], "7 Z "),
+        // The attach makes ten calls of the disk, and the prepared branch four.
+        (
+            &WHOLE,
+            &[11],
+            &[Reopen, Ask(All), Reopen, Ask(All)],
+            "failed lost none 7 Z ",
+        ),
+        (&WHOLE, &[11], &one_more, "ok ok ok failed none 7 Z "),
+        (&WHOLE, &[14], &one_more, "ok ok ok failed branch prepared "),
     ];
     for (file, fails, steps, expected) in table {
         let (text, _) = journaled(alloc, file, fails, steps)?;

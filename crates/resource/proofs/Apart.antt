@@ -53,10 +53,6 @@ apart_more seen more ats row rows e new =
     swap false true b = refl
     swap false false b = refl
 
--- the first row's key was seen
-pub apart_stop : (seen : Cells → Bool) (ats : List ℕ) (row : Cells) (rows : List Cells) → seen (cut ats row) ≡ true → apart_from seen ats (row ∷ rows) ≡ false
-apart_stop seen ats row rows old = ap (λ b. (not b && all_new seen ats rows) && are_keyed_apart ats (row ∷ rows)) old
-
 pub was_new : (b : Bool) → not b ≡ true → b ≡ false
 was_new true h = cc
 was_new false h = refl

@@ -5,10 +5,9 @@ use Rattle.vdb_model.specs.declared.source.Delta.{Delta}
 use Rattle.vdb_model.specs.declared.table.ColumnDef.{ColumnDef}
 use Rattle.vdb_model.specs.declared.table.TableDef.{TableDef}
 use Rattle.vdb_model.specs.Defs.{def_of}
-use Rattle.vdb_model.specs.Deltas.{without_one, without_each, changed, after_delta, after_deltas, repeats_key}
+use Rattle.vdb_model.specs.Deltas.{without_one, without_each, changed, after_delta, repeats_key}
 use Rattle.vdb_model.specs.Rows.{Cells, same_row}
 use Rattle.vdb_model.specs.World.{takes_row, takes_rows, keeps_key, is_table, is_world, table_rows}
-use Rattle.resource.proofs.Faultless.{are_as_many}
 
 taken_but_one : (cs : List ColumnDef) (row : Cells) (rows : List Cells) → takes_rows cs rows ≡ true → takes_rows cs (without_one row rows) ≡ true
 taken_but_one cs row [] h = refl
@@ -56,17 +55,3 @@ world_changed (d ∷ ds) (rows ∷ tables) delta h added key =
         → is_world (d ∷ ds) (if b then changed delta rows ∷ tables else rows ∷ after_delta ds tables delta) ≡ true
     here true first all a k rest = and_from (is_table d (changed delta rows)) (is_world ds tables) (table_changed d delta rows first a k) all
     here false first all a k rest = and_from (is_table d rows) (is_world ds (after_delta ds tables delta)) first (rest a k)
-
-one_many : (defs : List TableDef) (tables : List (List Cells)) (delta : Delta) → are_as_many defs tables ≡ true → are_as_many defs (after_delta defs tables delta) ≡ true
-one_many [] tables delta h = h
-one_many (d ∷ ds) [] delta h = h
-one_many (d ∷ ds) (rows ∷ tables) delta h = here (d.number == delta.table) (one_many ds tables delta h)
-  where
-    here : (b : Bool) → are_as_many ds (after_delta ds tables delta) ≡ true → are_as_many (d ∷ ds) (if b then changed delta rows ∷ tables else rows ∷ after_delta ds tables delta) ≡ true
-    here true rest = h
-    here false rest = rest
-
--- deltas leave as many tables
-pub as_many : (defs : List TableDef) (tables : List (List Cells)) (deltas : List Delta) → are_as_many defs tables ≡ true → are_as_many defs (after_deltas defs tables deltas) ≡ true
-as_many defs tables [] h = h
-as_many defs tables (delta ∷ deltas) h = as_many defs (after_delta defs tables delta) deltas (one_many defs tables delta h)

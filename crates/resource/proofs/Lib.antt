@@ -15,3 +15,4 @@ pub mod SingleQuery
 pub mod SingleAnswer
 pub mod QuerySays
 pub mod StopSays
+pub mod RowLengths

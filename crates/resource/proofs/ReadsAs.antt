@@ -12,7 +12,7 @@ use Rattle.resource.specs.declared.stored.StoredDelta.{StoredDelta}
 use Rattle.resource.specs.declared.stored.StoredTable.{StoredTable}
 use Rattle.resource.specs.Checked.{both_fault, stored_fault}
 use Rattle.resource.specs.Fields.{left_in}
-use Rattle.resource.specs.Holding.{Holding, defs_held, contents_held, told_held, images_held, first_image, other_image, image_of, first_of, other_of, state_of, taking}
+use Rattle.resource.specs.Holding.{Holding, defs_held, contents_held, told_held, images_held, first_image, other_image, image_of, first_of, state_of, taking}
 use Rattle.resource.specs.Images.{Image, Only, plain, branched, done}
 use Rattle.resource.specs.Leaves.{HasRead}
 use Rattle.resource.specs.Reading.{Branch, Reading, Sound}
@@ -57,13 +57,6 @@ pub taken_alone : (side : Side) (h : Holding) → other_image (taking side h) �
 taken_alone Plain h = refl
 taken_alone (Branched x) h = refl
 taken_alone Done h = refl
-
-pub sides_same : (m : Mode) → is_lost (state_of m) ≡ false → other_of m ≡ first_of m
-sides_same mode.Idle e = refl
-sides_same (mode.Active x) e = refl
-sides_same (mode.Ended x) e = refl
-sides_same (mode.Prepared x) e = refl
-sides_same (mode.Lost first other) e = cc
 
 -- it reads so
 pub taken_reads : (side : Side) (h : Holding) → Good (taking side h) → HasRead (first_image (taking side h) (defs_held h)) (told_held (taking side h)) (images_held (taking side h))

@@ -2,7 +2,7 @@
 
 ghost use Rattle.std.specs.Prelude.{◌≡◌, ◌+◌};
 ghost use Rattle.std.specs.Option.{unwrap_or};
-ghost use Rattle.vdb_model.specs.World.{takes_cell};
+ghost use Rattle.vdb_model.specs.World as world;
 ghost use Rattle.resource.specs.Stored as spec;
 ghost use Rattle.resource.specs.Checked.{IsCheckAnswer, both_fault, stored_fault};
 
@@ -16,9 +16,36 @@ use vdb_model::{ColumnDef, TableDef};
 
 /// Whether the cell fits its column, and isn't NULL where that is forbidden. It takes no memory.
 pub fn takes(column: &ColumnDef, v: &Value) -> bool
-    ensures { result ≡ takes_cell column.now v.now }
+    ensures { result ≡ world.takes_cell column.now v.now }
 {
     matches!(fits(v, column.ty), Fit::Yes) && !(column.not_null && matches!(v, Value::Null))
+}
+
+/// Whether the row has a cell for each column, which takes it, and no other.
+pub fn takes_row(columns: &[ColumnDef], row: &[Value]) -> bool
+    ensures { result ≡ world.takes_row columns.now row.now }
+{
+    if row.len() != columns.len() {
+        return false;
+    }
+    for i in 0..columns.len() {
+        if !takes(&columns[i], &row[i]) {
+            return false;
+        }
+    }
+    true
+}
+
+/// Whether the columns take each of the rows.
+pub fn takes_rows(columns: &[ColumnDef], rows: &[Row]) -> bool
+    ensures { result ≡ world.takes_rows columns.now rows.now }
+{
+    for row in rows {
+        if !takes_row(columns, row.as_slice()) {
+            return false;
+        }
+    }
+    true
 }
 
 /// The place, from 1, of the first cell that its column doesn't take.

@@ -5,8 +5,8 @@
 //! contents, what can be said without them still holds. A call fails only where the count of faults rose, and then the images
 //! are bounded: they are those of before, or beside them the one that the call was to make. `MemResource` tells everything
 //! and fails exactly at its listed calls; it is the yardstick for the other stores, and `stopped` gives each image of it. It
-//! is asked for filtered columns of one table at a time. The engine and every store stand on this crate; `passing_cut`, `takes`,
-//! `check_tables`, `cut`, `take_out` and `StoredDelta` are here for the stores.
+//! is asked for filtered columns of one table at a time. The engine and every store stand on this crate; `passing_cut`, `takes`
+//! and its like for rows, `check_tables`, `cut`, `take_out` and `StoredDelta` are here for the stores.
 #![tactic(auto)]
 
 mod asked;
@@ -22,7 +22,7 @@ mod stored;
 mod tables;
 
 pub use asked::passing_cut;
-pub use checks::{check_tables, takes};
+pub use checks::{check_tables, takes, takes_row, takes_rows};
 pub use keys::cut;
 pub use lane::{Lane, Lanes};
 pub use mem_resource::{MemResource, asks_one_table};

@@ -2,15 +2,14 @@
 
 ghost use Rattle.std.specs.Prelude.{◌≡◌, true, [], ◌∷◌, IfOk, OnOk, Some};
 ghost use Rattle.vdb_model.specs.Defs.{def_of};
-ghost use Rattle.vdb_model.specs.World.{takes_row};
 ghost use Rattle.resource.specs.MemResource.{mem_told};
 ghost use Rattle.resource.specs.Told as told;
 
 use crate::asked::passing_cut;
-use crate::checks::bad_column;
 use crate::tables::find_def;
 use crate::{
     AttachFault, ChangeFault, MemResource, ResFault, ResState, Resource, StoredTable, Tables, Vote,
+    takes_row,
 };
 use sqlite_items::{Boxed, Items};
 use std::alloc::Global;
@@ -199,15 +198,6 @@ fn is_free(defs: &TableDefs) -> bool
     }
 }
 
-fn is_taken(def: &TableDef, row: &Row) -> bool
-    ensures { result ≡ true → takes_row def.now.columns row.now ≡ true }
-{
-    match bad_column(def.columns.as_slice(), row.as_slice()) {
-        Some(_) => false,
-        None => row.len() == def.columns.len(),
-    }
-}
-
 /// Adds a word to the first table.
 fn add(
     alloc: Global,
@@ -222,7 +212,9 @@ fn add(
     let Some(def) = find_def(defs.as_slice(), 0) else {
         return Ok("unknown ");
     };
-    if !matches!(resource.state(), ResState::Active(_)) || !is_taken(def, &row) {
+    if !matches!(resource.state(), ResState::Active(_))
+        || !takes_row(def.columns.as_slice(), row.as_slice())
+    {
         return Ok("not taken ");
     }
     let delta = Delta {

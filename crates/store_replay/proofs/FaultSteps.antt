@@ -1,5 +1,5 @@
 -- What the records taken as lists say of tables that aren't in order.
-use Rattle.std.proofs.Common.{◌≡◌, ◌≢◌, ℕ, List, Option, Some, None, Result, Ok, Err, refl, sym, ap, subst, ◌∙◌}
+use Rattle.std.proofs.Common.{◌≡◌, ℕ, List, Option, Some, Result, Ok, Err, sym, ap, subst, ◌∙◌}
 use Rattle.gate_log.specs.Disk.{DiskTold}
 use Rattle.resource.specs.Checked.{IsCheckAnswer, stored_fault}
 use Rattle.resource.specs.Reading.{Reading}
@@ -9,25 +9,9 @@ use Rattle.vdb_model.specs.declared.table.TableDef.{TableDef}
 use Rattle.store_records.specs.Fields.{◌>>=◌}
 use Rattle.store_replay.specs.Listing.{ListingHas, stored_left}
 use Rattle.store_replay.specs.Replay.{Replayed, nothing, replay}
-use Rattle.store_replay.specs.Walking.{all_of, TakesAll, Walks, Reads}
-use Rattle.store_replay.specs.OpeningStore.{Names, NamesFault, Looks, LooksOn, attach_fault}
+use Rattle.store_replay.specs.Walking.{all_of, TakesAll}
+use Rattle.store_replay.specs.OpeningStore.{Names, NamesFault, Looks}
 use Rattle.store_replay.specs.declared.lists.Listing.{Listing}
-use Rattle.store_replay.specs.declared.walk.WalkFault.{WalkFault}
-use Rattle.store_replay.specs.declared.walk.WalkFault.TheVariants as walk
-
-not_both : (o : Option Replayed) (r : Replayed) → o ≡ None → o ≡ Some r → ⊥
-not_both o r none some = cc
-
--- a log that isn't read
-pub named_unread : (defs : List TableDef) (fault : WalkFault) (new : Listing) (bytes : List ℕ) → Walks ListingHas new (Err fault) bytes → NamesFault defs (attach_fault fault) bytes
-named_unread defs walk.Broken new bytes none = λ r is faulty. absurd (not_both (all_of bytes) r none is)
-named_unread defs walk.Failed new bytes h = λ r is faulty. tt
-named_unread defs walk.Memory new bytes h = λ r is faulty. tt
-
-pub looks_unread : (old new : DiskTold) (T : Type 0) (fault : WalkFault) → Reads {T = T} old new (Err fault) → Looks old new (attach_fault fault)
-looks_unread old new T walk.Broken h = h
-looks_unread old new T walk.Failed h = h
-looks_unread old new T walk.Memory h = h
 
 -- what the check of a log's tables answers
 abbrev pub Checked : List TableDef → Listing → Result (Unit {0}) AttachFault → Type 0
@@ -61,7 +45,3 @@ looks_checked defs listing old new some (BadCell t r c) checked same = same
 looks_checked defs listing old new some (BadStore t) checked same = same
 looks_checked defs listing old new some Failed checked same = absurd (checked some.0 some.1)
 looks_checked defs listing old new some Memory checked same = same
-
--- a question after others that changed nothing
-pub looks_after : (old mid new : DiskTold) (fault : AttachFault) → mid ≡ old → Looks mid new fault → Looks old new fault
-looks_after old mid new fault same looks = subst (λ (t : DiskTold). Looks t new fault) same looks

@@ -1,19 +1,18 @@
 -- What the records of an opened log say of the store.
-use Rattle.std.proofs.Common.{◌≡◌, ◌≢◌, ℕ, ◌+◌, ◌-◌, ◌≤◌, Bool, true, false, cond, leb, ◌&&◌, List, [], ◌∷◌, ◌++◌, length, Option, Some, None, option_map, IfSome, Result, Ok, Err, refl, sym, ap, subst, ◌∙◌, arith}
+use Rattle.std.proofs.Common.{◌≡◌, ◌≢◌, ℕ, ◌+◌, ◌-◌, Bool, true, false, cond, ◌&&◌, List, [], ◌∷◌, Option, Some, None, option_map, IfSome, Result, Ok, Err, refl, sym, ap, subst, ◌∙◌, arith}
 use Rattle.std.specs.Prelude.{is_some}
-use Rattle.std.proofs.lemmas.Bool.{leb-true, and_parts, and_from}
+use Rattle.std.proofs.lemmas.Bool.{and_parts, and_from}
 use Rattle.std.proofs.lemmas.List.{append-nil}
 use Rattle.vdb_base.specs.Counts.{Rose}
-use Rattle.gate_log.specs.Disk.{DiskTold, Fails}
+use Rattle.gate_log.specs.Disk.{DiskTold}
 use Rattle.gate_log.specs.Records.{log_limit, records}
-use Rattle.gate_log.specs.Log.{EndsAt, IsOpenAt}
-use Rattle.gate_log.specs.Opening.{Entered, FoundBad, KeepsRecords, Keeps}
+use Rattle.gate_log.specs.Log.{IsOpenAt}
+use Rattle.gate_log.specs.Opening.{Entered, FoundBad}
 use Rattle.gate_log.specs.Stops.{Same}
-use Rattle.gate_log.specs.Walking.{gate_behind}
 use Rattle.gate_log.proofs.Told.{told_map}
 use Rattle.gate_log.proofs.Walks.{end_behind}
 use Rattle.resource.specs.Checked.{stored_fault}
-use Rattle.resource.specs.Reading.{Reading, Branch, Sound, CellFault, StoreFault}
+use Rattle.resource.specs.Reading.{Reading, CellFault, StoreFault}
 use Rattle.resource.specs.Stored.{StoredBranch, tables_in, tables_fault, branch_under, sound_unless}
 use Rattle.resource.specs.declared.resource.AttachFault.{AttachFault}
 use Rattle.resource.specs.declared.resource.AttachFault.TheVariants.{BadCell, BadStore, Failed, Memory}
@@ -30,7 +29,7 @@ use Rattle.store_replay.specs.Listing.{stored_left, left_by_branch}
 use Rattle.store_replay.specs.Replay.{Replayed, nothing, replay, room_behind, can_end, store_in, reading_of, read_bytes}
 use Rattle.store_replay.specs.Replaying.{AreApart, ReplayHas, WaitsAs, left_by}
 use Rattle.store_replay.specs.Walking.{all_of, TakesAll, Walks}
-use Rattle.store_replay.specs.OpeningStore.{OpenedHas, IsOpened, IsReplayed, OpensSo, OpensAs, ReplaysSo, ReplaysAs, NamesFault, Names, KeepsStore, OpenLeaves, Looks, LooksOn, has_room, attach_fault}
+use Rattle.store_replay.specs.OpeningStore.{OpenedHas, IsOpened, IsReplayed, OpensSo, OpensAs, ReplaysSo, ReplaysAs, NamesFault, Names, KeepsStore, OpenLeaves, LooksOn, has_room, attach_fault}
 use Rattle.store_replay.specs.declared.opening.Opened.{Opened}
 use Rattle.store_replay.specs.declared.opening.Waiting.{Waiting}
 use Rattle.store_replay.specs.declared.replay.Replay.{Replay}
@@ -64,19 +63,11 @@ no_store bytes none = store_is bytes ∙ by (records bytes) none
 opened_has : (r : Replayed) (state : Replay) (records : ℕ) → ReplayHas r state → OpenedHas r (record { shelf = state.shelf; waiting = state.waiting; records = records })
 opened_has r state records h = record { has = h.has; waits = h.waits }
 
-room_by : (w : Option Waiting) (left : ℕ) → has_room w left ≡ true → is_some w ≡ true → 22 ≤ left
-room_by None left h some = cc
-room_by (Some waiting) left h some = leb-true 22 left h
-
 same_room : (defs : List TableDef) (b : Option StoredBranch) (w : Option Waiting) (left : ℕ) → WaitsAs defs b w → can_end b left ≡ has_room w left
 same_room defs None None left h = refl
 same_room defs None (Some waiting) left h = absurd h
 same_room defs (Some branch) None left h = absurd h
 same_room defs (Some branch) (Some waiting) left h = refl
-
-pub is_replayed : (defs : List TableDef) (left records : ℕ) (r : Replayed) (state : Replay) → state.shelf.defs ≡ defs → ReplayHas r state → has_room state.waiting left ≡ true
-    → IsReplayed defs left (record { shelf = state.shelf; waiting = state.waiting; records = records })
-is_replayed defs left records r state is has room = record { defs_are = is; r = r; has = opened_has r state records has; room = room_by state.waiting left room }
 
 module _ (bytes : List ℕ) (end : ℕ) (images : List ℕ → Type 0) (opened : IsOpenAt end images bytes) (count : ℕ) (state : Replay) (taken : TakesAll ReplayHas count state bytes) where
   -- what is left of the log is the room behind its records
@@ -191,13 +182,6 @@ module _ (defs : List TableDef) (o : Opened) (bytes : List ℕ) (apart : AreApar
       by Failed e = tt
       by Memory e = tt
 
--- what isn't replayed is refused
-pub opens_refused : (defs : List TableDef) (fault : AttachFault) (bytes : List ℕ) → ReplaysAs (Err fault) bytes → OpensAs defs (Err fault) bytes
-opens_refused defs (BadCell t r c) bytes h = absurd h
-opens_refused defs (BadStore t) bytes h = ap (λ o. reading_of o defs) h.1 ∙ ap StoreFault (sym h.0)
-opens_refused defs Failed bytes h = tt
-opens_refused defs Memory bytes h = tt
-
 -- ---- from the bytes that were opened to those of before
 
 opens_by : (defs : List TableDef) (result : Result Opened AttachFault) (a b : List ℕ) → records b ≡ records a → OpensAs defs result b → OpensAs defs result a
@@ -259,12 +243,6 @@ module _ (end : ℕ) (old mid : DiskTold) (before between : List ℕ → Type 0)
       reads = stands h.0;
     }
 
-pub keeps_on : (old : DiskTold) (before between now : List ℕ → Type 0) → Keeps old before between → Same between now → Keeps old before now
-keeps_on old before between now keeps same = told_map old.bytes _ _ (λ bytes k c left. k c (same.within c left)) keeps
-
 -- bytes that break the format
 pub opens_bad : (defs : List TableDef) (old new : DiskTold) (now : List ℕ → Type 0) → FoundBad old new now → IfSome old.bytes (OpensAs defs (Err (BadStore 0)))
 opens_bad defs old new now bad = told_map old.bytes (λ bytes. records bytes ≡ None) (OpensAs defs (Err (BadStore 0))) (λ bytes none. ap (λ s. reading_of s defs) (no_records bytes none)) bad.broken
-
-pub keeps_bad : (old new : DiskTold) (now : List ℕ → Type 0) → FoundBad old new now → KeepsStore old new now
-keeps_bad old new now bad = record { faults = ap (λ (t : DiskTold). t.faults) bad.same; same = ap (λ (t : DiskTold). option_map records t.bytes) bad.same; stands = bad.stands }

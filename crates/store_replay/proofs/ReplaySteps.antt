@@ -1,5 +1,5 @@
 -- What one record more makes of a replay.
-use Rattle.std.proofs.Common.{◌≡◌, ℕ, ◌+◌, ◌≤◌, length, drop, Bool, true, false, cond, not, List, [], ◌∷◌, ◌++◌, Option, Some, None, Result, Ok, Err, refl, sym, ap, subst, ◌∙◌}
+use Rattle.std.proofs.Common.{◌≡◌, ℕ, ◌+◌, ◌≤◌, length, drop, true, false, cond, List, [], ◌∷◌, ◌++◌, Option, Some, None, Result, Ok, refl, sym, ap, subst, ◌∙◌}
 use Rattle.std.specs.Prelude.{is_some, IsSomeAnd}
 use Rattle.std.proofs.lemmas.List.{drop_all, append-nil}
 use Rattle.vdb_model.specs.declared.source.Delta.{Delta}
@@ -21,7 +21,6 @@ use Rattle.store_records.specs.declared.branch.Ending.{Ending}
 use Rattle.store_records.specs.declared.branch.Ending.TheVariants as ending
 use Rattle.store_records.specs.declared.entry.Entry.{Entry}
 use Rattle.store_records.specs.declared.reading.ReadFault.{ReadFault}
-use Rattle.store_records.specs.declared.reading.ReadFault.TheVariants as fault
 use Rattle.store_replay.specs.declared.replay.Replay.{Replay}
 use Rattle.store_replay.specs.declared.opening.Waiting.{Waiting}
 use Rattle.store_tables.specs.declared.shelf.Shelf.{Shelf}
@@ -44,9 +43,6 @@ with_append (Some n) delta rest = refl
 
 pub shelf_one : (defs : List TableDef) (delta : StoredDelta) (made : Delta) (kept seen : List (List Cells)) (new : Shelf) → listed_by defs delta ≡ made ∷ [] → ShelfHas kept (after_delta defs seen made) new → ShelfHas kept (after_deltas defs seen (listed_by defs delta)) new
 shelf_one defs delta made kept seen new is has = subst (λ ds. ShelfHas kept (after_deltas defs seen ds) new) (sym is) has
-
-pub shelf_none : (defs : List TableDef) (delta : StoredDelta) (kept seen : List (List Cells)) (new : Shelf) → listed_by defs delta ≡ [] → ShelfHas kept seen new → ShelfHas kept (after_deltas defs seen (listed_by defs delta)) new
-shelf_none defs delta kept seen new none has = subst (λ ds. ShelfHas kept (after_deltas defs seen ds) new) (sym none) has
 
 module _ (defs : List TableDef) (deltas : List StoredDelta) (i : ℕ) (all made : List Delta) (old mid : Shelf) (so_far : MadeSoFar defs (drop i deltas) all made old mid) where
   pub made_more : (delta : StoredDelta) (more : List Delta) (new : Shelf) → drop i deltas ≡ delta ∷ drop (i + 1) deltas → more ≡ made ++ listed_by mid.defs delta → new.defs ≡ mid.defs

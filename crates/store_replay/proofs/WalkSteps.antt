@@ -1,18 +1,15 @@
 -- A walk through the records of a log.
-use Rattle.std.proofs.Common.{◌≡◌, ℕ, ◌+◌, ◌-◌, ◌≤◌, List, [], ◌∷◌, ◌++◌, length, take, drop, Option, Some, None, IfSome, OnOk, Result, Ok, Err, refl, sym, ap, subst, ◌∙◌, arith}
+use Rattle.std.proofs.Common.{◌≡◌, ℕ, ◌+◌, ◌-◌, List, [], ◌∷◌, ◌++◌, length, take, drop, Option, Some, None, Ok, Err, refl, sym, ap, subst, ◌∙◌, arith}
 use Rattle.std.specs.Prelude.{IsSomeAnd}
 use Rattle.std.proofs.lemmas.List.{take_all, take_at}
-use Rattle.gate_log.specs.Records.{records, records_from}
-use Rattle.gate_log.specs.Log.{EndsAt, IsOpenAt}
-use Rattle.gate_log.specs.Walking.{gate_behind, IsGate, PayloadAt, IsInPayload, IsPartOf, FoundRecord, NextIs}
+use Rattle.gate_log.specs.Records.{records_from}
+use Rattle.gate_log.specs.Log.{EndsAt}
+use Rattle.gate_log.specs.Walking.{IsGate, IsInPayload, IsPartOf, FoundRecord, NextIs}
 use Rattle.gate_log.specs.declared.log.Span.{Span}
 use Rattle.gate_log.proofs.Walks.{from_gate, first_gate}
-use Rattle.store_records.specs.declared.entry.Entry.{Entry}
-use Rattle.store_records.specs.declared.reading.ReadFault.{ReadFault}
 use Rattle.store_records.specs.declared.reading.ReadFault.TheVariants as read
 use Rattle.store_records.specs.Fields.{◌>>=◌}
-use Rattle.store_records.specs.Reading.{Gives, entry_of}
-use Rattle.store_replay.specs.Replay.{Replayed, nothing, replay, after_entry, after_payload}
+use Rattle.store_replay.specs.Replay.{Replayed, nothing, replay, after_payload}
 use Rattle.store_replay.specs.Walking.{Follows, Spans, TakenTo, TakesAll, StepsTo, IsOfReading, all_of}
 use Rattle.store_replay.specs.declared.walk.Place.{Place}
 use Rattle.store_replay.specs.declared.walk.WalkFault.{WalkFault}
@@ -38,16 +35,6 @@ buffer_read span payload bytes read items len n s is same size part =
 
 pub found_span : (at : ℕ) (span : Span) (bytes : List ℕ) (f : FoundRecord at span bytes) → Spans span f.payload bytes
 found_span at span bytes f = record { here = f.payload_at; len = ap (λ (s : Span). s.len) f.span_is }
-
--- what is read of a payload, and then taken
-pub payload_taken : {T : Type 0} (has : Replayed → T → Type 0) (payload : List ℕ) (entry : Entry) (r : Replayed) (new : T) (result : Result (Unit {0}) ReadFault)
-    → entry_of payload ≡ Some entry → Follows has (after_entry entry r) new result → Follows has (after_payload payload r) new result
-payload_taken has payload entry r new result is follows = subst (λ o. Follows has o new result) (sym (ap (λ (o : Option Entry). o >>= λ e. after_entry e r) is)) follows
-
-pub payload_refused : {T : Type 0} (has : Replayed → T → Type 0) (payload : List ℕ) (r : Replayed) (new : T) (fault : ReadFault)
-    → Gives (λ (e : Entry). e) (Err fault) (entry_of payload) → Follows has (after_payload payload r) new (Err fault)
-payload_refused has payload r new read.Broken none = ap (λ (o : Option Entry). o >>= λ e. after_entry e r) none
-payload_refused has payload r new read.Memory none = tt
 
 -- ---- the start
 

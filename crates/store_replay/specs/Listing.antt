@@ -1,5 +1,5 @@
 -- The records of a log as lists: exactly what they leave.
-use Rattle.std.specs.Prelude.{◌≡◌, true, false, List, Option, Some, None, Result, Ok, Err, ⊤}
+use Rattle.std.specs.Prelude.{◌≡◌, List, Option, Some, None, Result, Ok, Err}
 use Rattle.std.specs.Option.{option_map}
 use Rattle.vdb_model.specs.declared.source.Xid.{Xid}
 use Rattle.resource.specs.Stored.{StoredBranch, after_stored}

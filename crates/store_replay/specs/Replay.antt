@@ -1,5 +1,5 @@
 -- What the records of a log leave, from left to right: tables, and a prepared branch.
-use Rattle.std.specs.Prelude.{ℕ, ◌+◌, ◌-◌, nat_le, Bool, true, false, ◌&&◌, ◌==◌, if◌then◌else◌, List, [], ◌∷◌, length, Option, Some, None, is_some}
+use Rattle.std.specs.Prelude.{ℕ, ◌+◌, ◌-◌, nat_le, Bool, true, ◌&&◌, ◌==◌, if◌then◌else◌, List, [], ◌∷◌, Option, Some, None, is_some}
 use Rattle.vdb_model.specs.declared.source.Xid.{Xid}
 use Rattle.resource.specs.declared.stored.StoredDelta.{StoredDelta}
 use Rattle.vdb_model.specs.declared.table.TableDef.{TableDef}
@@ -10,8 +10,8 @@ use Rattle.resource.specs.Reading.{Reading, StoreFault}
 use Rattle.resource.specs.Stored.{StoredBranch, after_stored, read_store}
 use Rattle.store_records.specs.declared.entry.Entry.{Entry}
 use Rattle.store_records.specs.declared.entry.Entry.TheVariants.{Prepared, Committed, RolledBack, OnePhase}
-use Rattle.store_records.specs.Framing.{ending_size}
 use Rattle.store_records.specs.Fields.{◌>>=◌}
+use Rattle.store_records.specs.Framing.{ending_size}
 use Rattle.store_records.specs.Reading.{entry_of}
 
 -- the tables by their source names, and the branch that was prepared and not ended

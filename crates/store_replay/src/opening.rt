@@ -65,6 +65,7 @@ fn fault_of<D: Disk>(alloc: Global, log: &mut Log<D>, defs: &[TableDef]) -> Atta
     ensures leaves { Looks (D.told log.old.disk) (D.told log.new.disk) result }
     ensures stops { Same (D.images log.old.disk) (D.images log.new.disk) }
     ensures ready { IsOpen D.told D.images log.new }
+    ensures left { left_of log.new ≡ left_of log.old }
 {
     let mut listing = Listing::new(alloc);
     match walk(alloc, log, &mut listing) {
@@ -89,6 +90,7 @@ fn replayed<D: Disk>(
     ensures leaves { LooksOn (D.told log.old.disk) (D.told log.new.disk) result }
     ensures stops { Same (D.images log.old.disk) (D.images log.new.disk) }
     ensures ready { IsOpen D.told D.images log.new }
+    ensures left { left_of log.new ≡ left_of log.old }
 {
     let Ok(mut replay) = Replay::new(alloc, defs) else {
         return Err(AttachFault::Memory);
@@ -108,8 +110,12 @@ fn replayed<D: Disk>(
     })
 }
 
-/// Takes the records of an open log, and sees that the tables are in order.
-fn take_in<D: Disk>(alloc: Global, log: &mut Log<D>, defs: TableDefs) -> Result<Opened, AttachFault>
+/// Takes the records of an open log under definitions, and sees that the tables are in order. The log stays open as it was.
+pub fn read_store<D: Disk>(
+    alloc: Global,
+    log: &mut Log<D>,
+    defs: TableDefs,
+) -> Result<Opened, AttachFault>
     requires apart { AreApart defs }
     requires ready { IsOpen D.told D.images log.old }
     ensures answer { IfSome (D.told log.old.disk).bytes (OpensAs defs result) }
@@ -117,6 +123,7 @@ fn take_in<D: Disk>(alloc: Global, log: &mut Log<D>, defs: TableDefs) -> Result<
     ensures leaves { LooksOn (D.told log.old.disk) (D.told log.new.disk) result }
     ensures stops { Same (D.images log.old.disk) (D.images log.new.disk) }
     ensures ready { IsOpen D.told D.images log.new }
+    ensures left { left_of log.new ≡ left_of log.old }
 {
     let opened = match replayed(alloc, log, defs) {
         Ok(opened) => opened,
@@ -143,7 +150,7 @@ pub fn open_store<D: Disk>(
     ensures ready { OnOk result (IsOpen D.told D.images log.new) }
 {
     match log.reopen() {
-        Ok(()) => take_in(alloc, log, defs),
+        Ok(()) => read_store(alloc, log, defs),
         Err(OpenCause::Bad) => Err(AttachFault::BadStore { table: 0 }),
         Err(OpenCause::Failed) => Err(AttachFault::Failed),
     }

@@ -11,7 +11,7 @@ use Rattle.vdb_base.specs.Order.{row_cmp}
 use Rattle.vdb_model.specs.declared.table.ColumnDef.{ColumnDef}
 use Rattle.vdb_model.specs.declared.table.TableDef.{TableDef}
 use Rattle.vdb_model.specs.Rows.{Cells, same_row, cut_rows}
-use Rattle.vdb_model.specs.World.{takes_cell, takes_row, takes_rows, keeps_key, is_table}
+use Rattle.vdb_model.specs.World.{takes_row, takes_rows, keeps_key, is_table}
 use Rattle.vdb_model.proofs.SameDistinct.{equal_rows}
 use Rattle.store_tables.specs.Counting.{times, is_among, kept_in, seen_in}
 use Rattle.store_tables.specs.InOrder.{entry_fits, entry_is_alone}
@@ -199,15 +199,3 @@ module _ (def : TableDef) (kept seen : List Cells) (table : Table) (has : TableH
   pub tests_order : (columns : List ColumnDef) (fit once : Bool) → columns ≡ def.columns → fit ≡ list_all (entry_fits columns) table.rows.counts.entries → once ≡ alone → (fit && once) ≡ (is_table def kept && is_table def seen)
   tests_order columns fit once same f o =
       ap (λ b. b && once) (f ∙ ap (λ (l : List ColumnDef). list_all (entry_fits l) table.rows.counts.entries) same) ∙ ap (λ b. fits && b) o ∙ in_order
-
--- ---- a row
-
-pub row_long : (columns : List ColumnDef) (row : Cells) → (length row ≡ length columns → ⊥) → takes_row columns row ≡ false
-row_long [] [] h = absurd (h refl)
-row_long [] (v ∷ vs) h = refl
-row_long (c ∷ cs) [] h = refl
-row_long (c ∷ cs) (v ∷ vs) h = ap (λ b. takes_cell c v && b) (row_long cs vs (λ e. h (ap suc e))) ∙ and_false (takes_cell c v)
-  where
-    and_false : (b : Bool) → (b && false) ≡ false
-    and_false true = refl
-    and_false false = refl

@@ -8,7 +8,7 @@ use Rattle.std.proofs.lemmas.List.Sums.{sum_by-append}
 use Rattle.vdb_base.specs.Total.{row_total}
 use Rattle.vdb_model.specs.Rows.{Cells, same_row}
 use Rattle.vdb_model.proofs.SameDistinct.{equal_rows}
-use Rattle.vdb_model.specs.Deltas.{without_one, without_each}
+use Rattle.vdb_model.specs.Deltas.{without_one}
 use Rattle.store_tables.specs.Counting.{times}
 
 pub alike : IsEquivalence same_row
@@ -46,7 +46,3 @@ times-without_one r x (o ∷ rows) = by (same_row x o) refl (times-without_one r
               omega (arith, rest, apart, times-cons r o rows, times-cons r o (without_one x rows))
           | inr other ↦ omega (arith, rest, never r x other, times-cons r o rows, times-cons r o (without_one x rows))
         ]
-
-pub times-without_each : (r : Cells) (xs rows : List Cells) → times r (without_each xs rows) ≡ times r rows - times r xs
-times-without_each r [] rows = omega arith
-times-without_each r (x ∷ xs) rows = omega (arith, times-without_each r xs (without_one x rows), times-without_one r x rows, times-cons r x xs)

@@ -5,14 +5,13 @@ ghost use Rattle.std.specs.BTreeMap.{IsOrdered};
 ghost use Rattle.std.specs.List.{list_all};
 ghost use Rattle.vdb_base.specs.Order.{row_cmp};
 ghost use Rattle.vdb_model.specs.Rows.{Cells};
-ghost use Rattle.vdb_model.specs.World as world;
 ghost use Rattle.resource.specs.Checked as asked;
 ghost use Rattle.store_tables.specs.Answering.{repeated};
 ghost use Rattle.store_tables.specs.InOrder.{entry_fits, entry_is_alone};
 ghost use Rattle.store_tables.specs.Counting.{OnlyAt, SameBag, times};
 
 use crate::counting::{Counted, kept_in, make_place, see, seen_in, settle};
-use resource::{passing_cut, takes};
+use resource::{passing_cut, takes_row};
 use std::alloc::Global;
 use std::collections::BTreeMap;
 use std::slice;
@@ -38,21 +37,6 @@ fn add_copies(alloc: Global, made: &mut Rows, rows: &Rows, times: u64) -> Result
         made.append(rows.copy(alloc)?)?;
     }
     Ok(())
-}
-
-/// Whether the row has a cell for each column, which takes it, and no other.
-fn takes_row(columns: &[ColumnDef], row: &[Value]) -> bool
-    ensures { result ≡ world.takes_row columns.now row.now }
-{
-    if row.len() != columns.len() {
-        return false;
-    }
-    for i in 0..columns.len() {
-        if !takes(&columns[i], &row[i]) {
-            return false;
-        }
-    }
-    true
 }
 
 impl Tally {

@@ -6,7 +6,7 @@ pub returns-in-Ok-clause-answer : goal.returns-in-Ok-clause-answer
 returns-in-Ok-clause-answer g c =
     let old = c.args.log.now in
     let mid = c.reopen.new.self in
-    opens_before mid.end (g.D.Disk.told old.disk) (g.D.Disk.told mid.disk) (g.D.Disk.images old.disk) (g.D.Disk.images mid.disk) c.in-Ok.ensures.answer c.args.defs c.take_in.result c.take_in.ensures.answer
+    opens_before mid.end (g.D.Disk.told old.disk) (g.D.Disk.told mid.disk) (g.D.Disk.images old.disk) (g.D.Disk.images mid.disk) c.in-Ok.ensures.answer c.args.defs c.read_store.result c.read_store.ensures.answer
 
 pub returns-in-Err-Bad-clause-answer : goal.returns-in-Err-Bad-clause-answer
 returns-in-Err-Bad-clause-answer g c =

@@ -1,4 +1,4 @@
-use Rattle.std.proofs.Common.{◌≡◌, List, ℕ, length, arith}
+use Rattle.std.proofs.Common.{◌≡◌, length, arith}
 use Rattle.gate_log.specs.Walking.{IsPartOf}
 use Rattle.gate_log.proofs.Told.{told_map}
 use Rattle.store_replay.proofs.WalkSteps.{buffer_read}

@@ -8,14 +8,14 @@ use Rattle.store_replay.specs.OpeningStore.{OpensAs}
 use Rattle.store_replay.specs.Replaying.{AreApart}
 use Rattle.mem_store.specs.Standing.{Standing}
 use Rattle.mem_store.specs.Store.{store_told, store_images, seen_of}
-use Rattle.mem_store.proofs.ReopenSteps.{lost_apart, unread_leaves, unread_stands, unread_fewer}
+use Rattle.mem_store.proofs.ReopenSteps.{is_apart, unread_leaves, unread_stands, unread_fewer}
 use Rattle.mem_store.proofs.StoreSteps.{fewer_opened, taken_stands, taken_reopens}
 use Rattle.mem_store.proofs.inner.Inner.reopen_lost.Goals as goal
 
 pub open_store-requires : goal.open_store-requires
 open_store-requires g c =
     let same : c.in-Ok.defs ≡ c.in-Some.attached.shelf.defs = c.in-Ok.ensures in
-    subst AreApart (sym same) (lost_apart g.D.Disk.told g.D.Disk.images c.args.self.now c.args.self.now.log c.in-Some.attached c.in-Some.is c.requires.may.state_is c.requires.stands)
+    subst AreApart (sym same) (is_apart g.D.Disk.told g.D.Disk.images c.args.self.now c.in-Some.attached c.in-Some.is c.requires.stands)
 
 pub returns-in-Ok-open_store-clause-leaves : goal.returns-in-Ok-open_store-clause-leaves
 returns-in-Ok-open_store-clause-leaves g c =
@@ -25,7 +25,7 @@ returns-in-Ok-open_store-clause-leaves g c =
     let h = c.in-Ok-open_store.ensures in
     let t = c.take.ensures in
     let same : c.in-Ok.defs ≡ c.in-Some.attached.shelf.defs = c.in-Ok.ensures in
-    let apart = subst AreApart (sym same) (lost_apart told images old old.log c.in-Some.attached c.in-Some.is c.requires.may.state_is c.requires.stands) in
+    let apart = subst AreApart (sym same) (is_apart told images old c.in-Some.attached c.in-Some.is c.requires.stands) in
     let known : (seen_of old).defs ≡ Some c.in-Ok.defs = ap (option_map (λ (x : Attached). x.shelf.defs)) c.in-Some.is ∙ ap Some (sym same) in
     let leaves = taken_reopens told images old c.open_store.new.log c.in-Ok.defs apart c.requires.stands c.in-Ok-open_store.opened h.answer h.opened h.leaves h.ready t.attached c.take.new.self.state t.shelf t.branch known in
     subst (λ (n : Inner g.row.D.Denot). Reopened (store_told told (seen_of old)) (store_told told (seen_of n)) (store_images told images (seen_of n))) (sym t.is) leaves
@@ -46,7 +46,7 @@ returns-in-Ok-open_store-clause-stands g c =
     let h = c.in-Ok-open_store.ensures in
     let t = c.take.ensures in
     let same : c.in-Ok.defs ≡ c.in-Some.attached.shelf.defs = c.in-Ok.ensures in
-    let apart = subst AreApart (sym same) (lost_apart told images old old.log c.in-Some.attached c.in-Some.is c.requires.may.state_is c.requires.stands) in
+    let apart = subst AreApart (sym same) (is_apart told images old c.in-Some.attached c.in-Some.is c.requires.stands) in
     let stands = taken_stands told images old c.open_store.new.log c.in-Ok.defs apart c.requires.stands c.in-Ok-open_store.opened h.answer h.opened h.leaves h.ready t.attached c.take.new.self.state t.shelf t.branch in
     subst (λ (n : Inner g.row.D.Denot). Standing told images n) (sym t.is) stands
 

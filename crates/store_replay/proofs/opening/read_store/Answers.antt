@@ -1,11 +1,11 @@
-use Rattle.std.proofs.Common.{◌≡◌, ℕ, List, Some, Ok, ap, subst, ◌∙◌}
+use Rattle.std.proofs.Common.{◌≡◌, ℕ, List, Some, ap, subst, ◌∙◌}
 use Rattle.gate_log.specs.Disk.{DiskTold}
 use Rattle.gate_log.specs.Log.{left_of}
 use Rattle.gate_log.proofs.Told.{if_told, at_told, told_map}
 use Rattle.vdb_model.specs.declared.table.TableDef.{TableDef}
 use Rattle.store_replay.specs.OpeningStore.{ReplaysSo, OpensSo, NamesFault}
 use Rattle.store_replay.proofs.OpenSteps.{is_opened, opens_so, opens_fault}
-use Rattle.store_replay.proofs.opening.take_in.Goals as goal
+use Rattle.store_replay.proofs.opening.read_store.Goals as goal
 
 pub returns-then-is_in_order-clause-answer : goal.returns-then-is_in_order-clause-answer
 returns-then-is_in_order-clause-answer g c =

@@ -1,6 +1,6 @@
 use Rattle.std.proofs.Common.{◌≡◌, drop}
 use Rattle.vdb_model.specs.World as world
-use Rattle.mem_store.proofs.calls.takes_rows.Given as goal
+use Rattle.resource.proofs.checks.takes_rows.Given as goal
 
 -- the rows to come decide
 abbrev pub invariant-loop-row : goal.invariant-loop-row

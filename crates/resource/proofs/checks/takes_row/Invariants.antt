@@ -1,6 +1,6 @@
 use Rattle.std.proofs.Common.{◌≡◌, drop}
 use Rattle.vdb_model.specs.World.{takes_row}
-use Rattle.store_tables.proofs.tally.takes_row.Given as goal
+use Rattle.resource.proofs.checks.takes_row.Given as goal
 
 -- the cells to come decide
 abbrev pub invariant-loop-i : goal.invariant-loop-i

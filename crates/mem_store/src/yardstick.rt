@@ -1,4 +1,4 @@
-//! What the calls of a run say of a journaled store.
+//! The same calls on a store in memory that tells everything, and on a journaled store: each answer is compared.
 
 ghost use Rattle.std.specs.Prelude.{◌≡◌, true, false, [], ◌∷◌, IfOk, IfSome, OnOk, Some, None, length};
 ghost use Rattle.vdb_base.specs.declared.value.Ty.TheVariants.{Integer, Str};
@@ -11,12 +11,8 @@ ghost use Rattle.resource.specs.Told as told;
 ghost use Rattle.std.specs.List.{list_any};
 ghost use Rattle.vdb_model.specs.Rows.{same_row};
 ghost use Rattle.mem_store.specs.WhatStands.{Stand};
-ghost use Rattle.mem_store.specs.Store.{store_told};
-ghost use Rattle.gate_log.specs.MemDisk.{mem_told};
 
-use crate::MemStore;
-use gate_log::MemDisk;
-use resource::{AttachFault, ChangeFault, ResFault, ResState, Resource, Vote, takes};
+use resource::{AttachFault, ChangeFault, ResFault, ResState, Resource, Vote, takes_rows};
 use sqlite_items::{Boxed, Items};
 use std::alloc::Global;
 use std::test::Fail;
@@ -199,14 +195,14 @@ fn shown(alloc: Global, rows: Rows) -> Result<String, Fail> {
 }
 
 /// The customers that are asked for, or the state in which none can be.
-fn ask(
+fn ask<R: Resource>(
     alloc: Global,
-    store: &mut MemStore<MemDisk>,
+    store: &mut R,
     customers: &Customers,
     criterion: Criterion,
 ) -> Result<String, Fail>
-    requires attached { (store_told mem_told store.old).defs ≡ Some customers.now.defs }
-    ensures attached { (store_told mem_told store.new).defs ≡ Some customers.now.defs }
+    requires attached { (R.told store.old).defs ≡ Some customers.now.defs }
+    ensures attached { (R.told store.new).defs ≡ Some customers.now.defs }
 {
     let q = query(alloc, criterion)?;
     if !is_open(store.state()) {
@@ -249,17 +245,16 @@ fn is_among(row: &Row, rows: &[Row]) -> bool
 }
 
 /// Whether the row stands in the table as a branch sees it. The store is asked for it.
-
-fn stands(
+fn stands<R: Resource>(
     alloc: Global,
-    store: &mut MemStore<MemDisk>,
+    store: &mut R,
     customers: &Customers,
     row: &Row,
 ) -> Result<bool, NoMemory>
-    requires attached { (store_told mem_told store.old).defs ≡ Some customers.now.defs }
-    ensures attached { (store_told mem_told store.new).defs ≡ Some customers.now.defs }
-    ensures state { (store_told mem_told store.new).state ≡ (store_told mem_told store.old).state }
-    ensures there { IfOk result (λ stands. stands ≡ true → Stand customers.now.defs 3 (row.now ∷ []) (store_told mem_told store.new)) }
+    requires attached { (R.told store.old).defs ≡ Some customers.now.defs }
+    ensures attached { (R.told store.new).defs ≡ Some customers.now.defs }
+    ensures state { (R.told store.new).state ≡ (R.told store.old).state }
+    ensures there { IfOk result (λ stands. stands ≡ true → Stand customers.now.defs 3 (row.now ∷ []) (R.told store.new)) }
 {
     let q = everyone(alloc)?;
     if !is_open(store.state()) || !store.caps().can(&q, &customers.defs) {
@@ -269,32 +264,6 @@ fn stands(
         Ok(rows) => Ok(is_among(row, rows.as_slice())),
         Err(_) => Ok(false),
     }
-}
-
-/// Whether the row has a cell for each column, which takes it, and no other.
-fn takes_row(columns: &[ColumnDef], row: &[Value]) -> bool
-    ensures { result ≡ world.takes_row columns.now row.now }
-{
-    if row.len() != columns.len() {
-        return false;
-    }
-    for i in 0..columns.len() {
-        if !takes(&columns[i], &row[i]) {
-            return false;
-        }
-    }
-    true
-}
-
-fn takes_rows(columns: &[ColumnDef], rows: &[Row]) -> bool
-    ensures { result ≡ world.takes_rows columns.now rows.now }
-{
-    for row in rows {
-        if !takes_row(columns, row.as_slice()) {
-            return false;
-        }
-    }
-    true
 }
 
 impl Customers {
@@ -320,15 +289,15 @@ fn rows(alloc: Global, lines: [Option<Line>; 3]) -> Result<Rows, NoMemory> {
 }
 
 /// The row to take out, where there is one; none at all where it doesn't stand there.
-fn leaving(
+fn leaving<R: Resource>(
     alloc: Global,
-    store: &mut MemStore<MemDisk>,
+    store: &mut R,
     customers: &Customers,
     removed: Option<Line>,
 ) -> Result<Option<Rows>, NoMemory>
-    requires attached { (store_told mem_told store.old).defs ≡ Some customers.now.defs }
-    ensures attached { (store_told mem_told store.new).defs ≡ Some customers.now.defs }
-    ensures there { IfOk result (λ found. IfSome found (λ rows. Stand customers.now.defs 3 rows (store_told mem_told store.new))) }
+    requires attached { (R.told store.old).defs ≡ Some customers.now.defs }
+    ensures attached { (R.told store.new).defs ≡ Some customers.now.defs }
+    ensures there { IfOk result (λ found. IfSome found (λ rows. Stand customers.now.defs 3 rows (R.told store.new))) }
 {
     let Some(line) = removed else {
         return Ok(Some(Seq::new(alloc)));
@@ -342,15 +311,15 @@ fn leaving(
 }
 
 /// Makes a change of the customers. A row is taken out only where it stands there.
-fn change(
+fn change<R: Resource>(
     alloc: Global,
-    store: &mut MemStore<MemDisk>,
+    store: &mut R,
     customers: &Customers,
     removed: Option<Line>,
     added: [Option<Line>; 3],
 ) -> Result<&'static str, Fail>
-    requires attached { (store_told mem_told store.old).defs ≡ Some customers.now.defs }
-    ensures attached { (store_told mem_told store.new).defs ≡ Some customers.now.defs }
+    requires attached { (R.told store.old).defs ≡ Some customers.now.defs }
+    ensures attached { (R.told store.new).defs ≡ Some customers.now.defs }
 {
     let added = rows(alloc, added)?;
     let Some(removed) = leaving(alloc, store, customers, removed)? else {
@@ -373,9 +342,9 @@ fn change(
     }
 }
 
-fn start(store: &mut MemStore<MemDisk>, customers: &Customers) -> &'static str
-    requires attached { (store_told mem_told store.old).defs ≡ Some customers.now.defs }
-    ensures attached { (store_told mem_told store.new).defs ≡ Some customers.now.defs }
+fn start<R: Resource>(store: &mut R, customers: &Customers) -> &'static str
+    requires attached { (R.told store.old).defs ≡ Some customers.now.defs }
+    ensures attached { (R.told store.new).defs ≡ Some customers.now.defs }
 {
     if !store.caps().writes || !matches!(store.state(), ResState::Idle) {
         return "not now ";
@@ -386,9 +355,9 @@ fn start(store: &mut MemStore<MemDisk>, customers: &Customers) -> &'static str
     }
 }
 
-fn end(store: &mut MemStore<MemDisk>, customers: &Customers) -> &'static str
-    requires attached { (store_told mem_told store.old).defs ≡ Some customers.now.defs }
-    ensures attached { (store_told mem_told store.new).defs ≡ Some customers.now.defs }
+fn end<R: Resource>(store: &mut R, customers: &Customers) -> &'static str
+    requires attached { (R.told store.old).defs ≡ Some customers.now.defs }
+    ensures attached { (R.told store.new).defs ≡ Some customers.now.defs }
 {
     let ResState::Active(x) = store.state() else {
         return "not now ";
@@ -399,9 +368,9 @@ fn end(store: &mut MemStore<MemDisk>, customers: &Customers) -> &'static str
     }
 }
 
-fn prepare(alloc: Global, store: &mut MemStore<MemDisk>, customers: &Customers) -> &'static str
-    requires attached { (store_told mem_told store.old).defs ≡ Some customers.now.defs }
-    ensures attached { (store_told mem_told store.new).defs ≡ Some customers.now.defs }
+fn prepare<R: Resource>(alloc: Global, store: &mut R, customers: &Customers) -> &'static str
+    requires attached { (R.told store.old).defs ≡ Some customers.now.defs }
+    ensures attached { (R.told store.new).defs ≡ Some customers.now.defs }
 {
     let ResState::Ended(x) = store.state() else {
         return "not now ";
@@ -415,9 +384,9 @@ fn prepare(alloc: Global, store: &mut MemStore<MemDisk>, customers: &Customers) 
 }
 
 /// Commits a prepared branch.
-fn commit(store: &mut MemStore<MemDisk>, customers: &Customers) -> &'static str
-    requires attached { (store_told mem_told store.old).defs ≡ Some customers.now.defs }
-    ensures attached { (store_told mem_told store.new).defs ≡ Some customers.now.defs }
+fn commit<R: Resource>(store: &mut R, customers: &Customers) -> &'static str
+    requires attached { (R.told store.old).defs ≡ Some customers.now.defs }
+    ensures attached { (R.told store.new).defs ≡ Some customers.now.defs }
 {
     let ResState::Prepared(x) = store.state() else {
         return "not now ";
@@ -429,9 +398,9 @@ fn commit(store: &mut MemStore<MemDisk>, customers: &Customers) -> &'static str
 }
 
 /// Commits an ended branch in one phase.
-fn commit_alone(alloc: Global, store: &mut MemStore<MemDisk>, customers: &Customers) -> &'static str
-    requires attached { (store_told mem_told store.old).defs ≡ Some customers.now.defs }
-    ensures attached { (store_told mem_told store.new).defs ≡ Some customers.now.defs }
+fn commit_alone<R: Resource>(alloc: Global, store: &mut R, customers: &Customers) -> &'static str
+    requires attached { (R.told store.old).defs ≡ Some customers.now.defs }
+    ensures attached { (R.told store.new).defs ≡ Some customers.now.defs }
 {
     let ResState::Ended(x) = store.state() else {
         return "not now ";
@@ -446,9 +415,9 @@ fn commit_alone(alloc: Global, store: &mut MemStore<MemDisk>, customers: &Custom
     }
 }
 
-fn roll_back(store: &mut MemStore<MemDisk>, customers: &Customers) -> &'static str
-    requires attached { (store_told mem_told store.old).defs ≡ Some customers.now.defs }
-    ensures attached { (store_told mem_told store.new).defs ≡ Some customers.now.defs }
+fn roll_back<R: Resource>(store: &mut R, customers: &Customers) -> &'static str
+    requires attached { (R.told store.old).defs ≡ Some customers.now.defs }
+    ensures attached { (R.told store.new).defs ≡ Some customers.now.defs }
 {
     let x = match store.state() {
         ResState::Active(x) | ResState::Ended(x) | ResState::Prepared(x) => x,
@@ -461,9 +430,9 @@ fn roll_back(store: &mut MemStore<MemDisk>, customers: &Customers) -> &'static s
 }
 
 /// Reads the store again, and looks for a prepared branch.
-fn reopen(alloc: Global, store: &mut MemStore<MemDisk>, customers: &Customers) -> &'static str
-    requires attached { (store_told mem_told store.old).defs ≡ Some customers.now.defs }
-    ensures attached { (store_told mem_told store.new).defs ≡ Some customers.now.defs }
+fn reopen<R: Resource>(alloc: Global, store: &mut R, customers: &Customers) -> &'static str
+    requires attached { (R.told store.old).defs ≡ Some customers.now.defs }
+    ensures attached { (R.told store.new).defs ≡ Some customers.now.defs }
 {
     match store.reopen(alloc) {
         Ok(()) => {}
@@ -481,13 +450,13 @@ fn reopen(alloc: Global, store: &mut MemStore<MemDisk>, customers: &Customers) -
 }
 
 /// What each call of a run says.
-pub fn said(
+pub fn said<R: Resource>(
     alloc: Global,
-    store: &mut MemStore<MemDisk>,
+    store: &mut R,
     customers: &Customers,
     steps: &[Step],
 ) -> Result<String, Fail>
-    requires attached { (store_told mem_told store.old).defs ≡ Some customers.now.defs }
+    requires attached { (R.told store.old).defs ≡ Some customers.now.defs }
 {
     let mut said = String::new(alloc);
     for step in steps {
@@ -517,12 +486,12 @@ fn is_lost(state: ResState) -> bool
 }
 
 /// Attaches the customers, and fails where they aren't fit or the store is lost.
-pub fn attach(
+pub fn attach<R: Resource>(
     alloc: Global,
-    store: &mut MemStore<MemDisk>,
+    store: &mut R,
     customers: &Customers,
 ) -> Result<(), AttachFault>
-    ensures attached { OnOk result ((store_told mem_told store.new).defs ≡ Some customers.now.defs) }
+    ensures attached { OnOk result ((R.told store.new).defs ≡ Some customers.now.defs) }
 {
     if !are_fit(&store.caps(), &customers.defs) || is_lost(store.state()) {
         return Err(AttachFault::Failed);

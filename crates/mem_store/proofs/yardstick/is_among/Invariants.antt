@@ -1,7 +1,7 @@
 use Rattle.std.proofs.Common.{◌≡◌, drop}
 use Rattle.std.specs.List.{list_any}
 use Rattle.vdb_model.specs.Rows.{same_row}
-use Rattle.mem_store.proofs.calls.is_among.Given as goal
+use Rattle.mem_store.proofs.yardstick.is_among.Given as goal
 
 -- the rows to come decide
 abbrev pub invariant-loop-other : goal.invariant-loop-other

@@ -1,6 +1,0 @@
-use Rattle.std.proofs.Common.{sym}
-use Rattle.store_tables.proofs.OrderSteps.{row_long}
-use Rattle.mem_store.proofs.calls.takes_row.Goals as goal
-
-pub returns-then-row-columns : goal.returns-then-row-columns
-returns-then-row-columns c = sym (row_long c.args.columns.now c.args.row.now c.if-row-columns.true)

@@ -1,7 +1,0 @@
-use Rattle.std.proofs.Common.{◌≡◌, drop}
-use Rattle.vdb_model.specs.World.{takes_row}
-use Rattle.mem_store.proofs.calls.takes_row.Given as goal
-
--- the cells to come decide
-abbrev pub invariant-loop-i : goal.invariant-loop-i
-invariant-loop-i l = takes_row (drop l.i l.columns) (drop l.i l.row) ≡ takes_row l.columns l.row
