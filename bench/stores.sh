@@ -1,7 +1,11 @@
 #!/bin/sh
+# What stores cost, by the least time of three runs each.
+# A journaled store: 10,000 and 100,000 rows that come one by one in one branch, which is committed, and the store attached again;
+# and 100,000 rows in one change. Prints the growth from the smaller store to the greater (a linear body has some 10, a quadratic
+# one 100), how much longer the single changes take than the one, the greatest memory, and that memory and the log's bytes by the row.
 # CSV files of 100,000 and 1,000,000 lines attached: vdb started over them with an empty script, and sqlite3's import of the
-# same files where it is there. Prints the least time of three runs each, their ratio, the growth from the smaller file to the
-# greater, the greatest memory of vdb, and that memory by the bytes of the file and by the row.
+# same files where it is there. Prints their ratio, the growth, and the greatest memory of vdb, by the bytes of the file and by the row.
+# Build first: cd crates/bench_work && rt run
 set -eu
 top=$(cd "$(dirname "$0")/.." && pwd)
 work=$(mktemp -d)
@@ -27,7 +31,7 @@ def run(words, stdin):
     """The time of a run, and its greatest memory in MB."""
     start = time.monotonic()
     with open(stdin) as given:
-        child = subprocess.Popen(words, stdin=given, stdout=subprocess.DEVNULL)
+        child = subprocess.Popen(words, stdin=given, stdout=subprocess.DEVNULL, cwd=work)
         _, status, used = os.wait4(child.pid, 0)
     if status != 0:
         sys.exit(f"{words[0]} ended with {status}")
@@ -36,6 +40,25 @@ def run(words, stdin):
 def least(words, stdin):
     runs = [run(words, stdin) for _ in range(3)]
     return min(time for time, _ in runs), max(memory for _, memory in runs)
+
+def journaled(what, count):
+    return least([top + "/crates/bench_work/out/bench_work", what, str(count)], os.devnull)
+
+def per_row(count):
+    return f"the log has {os.path.getsize(work + '/bench_work.log') // count} bytes a row"
+
+before = None
+for rows in (10000, 100000):
+    came, memory = journaled("rows", rows)
+    again, memory_again = journaled("again", rows)
+    text = f"{rows} rows one by one: {came:.2f} s, at most {memory} MB, {memory * 1048576 // rows} bytes a row; {per_row(rows)}; "
+    text += f"attached again: {again:.2f} s, at most {memory_again} MB, {memory_again * 1048576 // rows} bytes a row"
+    if before is not None:
+        text += f"; {came / before[0]:.1f} and {again / before[1]:.1f} times the smaller"
+    before = came, again
+    print(text, flush=True)
+at_once, memory = journaled("block", 100000)
+print(f"100000 rows at once: {at_once:.2f} s, at most {memory} MB; one by one {before[0] / at_once:.1f} times as long", flush=True)
 
 before = None
 for lines in (100000, 1000000):

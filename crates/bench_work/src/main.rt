@@ -2,13 +2,15 @@
 //!
 //! `bench_work WHAT HOW_MUCH` does one piece of work and prints what came of it: `log` and `bare` add records to a file
 //! in the current folder, by the log and by the same calls without it; `join`, `group` and `sort` run one relational
-//! operator over rows that it makes; `statement`, `script` and `ddl` read texts that it makes. The scripts time it. It promises
-//! nothing but that it is safe and ends.
+//! operator over rows that it makes; `statement`, `script` and `ddl` read texts that it makes; `rows` and `block` put rows into a
+//! journaled store over the same file, one by one or all at once, and `again` reads it. The scripts time it. It promises nothing
+//! but that it is safe and ends.
 #![tactic(auto)]
 
 mod logs;
 mod operators;
 mod readers;
+mod stores;
 
 use logs::{add_frames, add_records};
 use operators::{grouped, joined, sorted};
@@ -17,6 +19,7 @@ use std::fs::{File, OpenOptions};
 use std::process::ExitCode;
 use std::rt::Runtime;
 use std::{env, io};
+use stores::{filled, held};
 use vdb_base::NoMemory;
 
 /// What can be asked for.
@@ -30,6 +33,9 @@ enum Work {
     Statement,
     Script,
     Ddl,
+    Rows,
+    Block,
+    Again,
 }
 
 fn work_of(word: &str) -> Option<Work> {
@@ -42,6 +48,9 @@ fn work_of(word: &str) -> Option<Work> {
         "statement" => Some(Work::Statement),
         "script" => Some(Work::Script),
         "ddl" => Some(Work::Ddl),
+        "rows" => Some(Work::Rows),
+        "block" => Some(Work::Block),
+        "again" => Some(Work::Again),
         _ => None,
     }
 }
@@ -87,6 +96,14 @@ fn new_file(rt: &HostRuntime) -> io::Result<File> {
         .open(rt, "bench_work.log")
 }
 
+/// The file that an earlier run left.
+fn old_file(rt: &HostRuntime) -> io::Result<File> {
+    OpenOptions::new()
+        .read(true)
+        .write(true)
+        .open(rt, "bench_work.log")
+}
+
 /// How many records or rows came of the work.
 fn done(rt: &HostRuntime, work: Work, count: u32) -> Result<usize, Fault> {
     let alloc = rt.alloc();
@@ -99,6 +116,9 @@ fn done(rt: &HostRuntime, work: Work, count: u32) -> Result<usize, Fault> {
         Work::Statement => Ok(read_long(alloc, count)?),
         Work::Script => Ok(read_script(alloc, count)?),
         Work::Ddl => Ok(read_definitions(alloc, count)?),
+        Work::Rows => Ok(filled(alloc, new_file(rt)?, count, 1)? as usize),
+        Work::Block => Ok(filled(alloc, new_file(rt)?, count, count)? as usize),
+        Work::Again => held(alloc, old_file(rt)?),
     }
 }
 

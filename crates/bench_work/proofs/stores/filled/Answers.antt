@@ -1,0 +1,10 @@
+use denote.Param.Send.{sendable}
+use Rattle.mem_store.proofs.Sent.{store_send}
+use Rattle.bench_work.proofs.Sent.{file_send}
+use Rattle.bench_work.proofs.stores.filled.Goals as goal
+
+pub attach-requires-send-R : goal.attach-requires-send-R
+attach-requires-send-R c κs = search (sendable, store_send, file_send) depth 20
+
+pub fill-requires-send-R : goal.fill-requires-send-R
+fill-requires-send-R c κs = search (sendable, store_send, file_send) depth 20
